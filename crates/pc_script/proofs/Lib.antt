@@ -1,0 +1,4 @@
+pub mod CommandSteps
+pub mod IntakeSteps
+pub mod LineSteps
+pub mod ReadingSteps

@@ -1,0 +1,87 @@
+-- How the bytes of a script are cut into units, lines and commands.
+use Rattle.std.specs.Prelude.{ℕ, ◌≡◌, ◌-◌, Bool, true, false, ◌||◌, ◌==◌, if◌then◌else◌, nat_le, nat_lt, List, [], ◌∷◌, ◌++◌, map, take, length, Some, None}
+use Rattle.std.proofs.Common.{refl}
+use Rattle.std.specs.List.{onto_first, concat, slice_split}
+use Rattle.std.specs.Option.{option_map_or}
+use Rattle.std.specs.Str.{bytes_eq}
+use Rattle.std.specs.Str.Lines.{strip_carriage_return, lines_of_parts}
+use Rattle.pc_script.specs.Ahead.{Ahead, or_more}
+pub use Rattle.pc_script.specs.Form.{line_limit, line_limit-is}
+use Rattle.pc_script.specs.Form.{shortened, is_skipped, here_word}
+use Rattle.pc_script.specs.declared.ahead.Next.{Next}
+use Rattle.pc_script.specs.declared.ahead.Next.TheVariants.{Item, End, TooMany}
+use Rattle.pc_script.specs.declared.given.Given.{Given}
+
+-- A unit ends at a line feed, or when it has no room for more. It has room for 1,000,000 bytes.
+unfoldable pub units : ℕ → List ℕ → List (List ℕ)
+units room [] = []
+units room (b ∷ bs) = if b == 10 || nat_le room 1 then (b ∷ []) ∷ units 1000000 bs else onto_first b (units (room - 1) bs)
+
+-- How many units a script has.
+abbrev pub unit_count : List ℕ → ℕ
+unit_count bytes = length (units 1000000 bytes)
+
+-- The bytes of so many units, where the first has room for so many bytes, and whether there are more units.
+unfoldable pub within : ℕ → ℕ → List ℕ → Ahead ℕ
+within left room bytes = record { items = concat (take left (units room bytes)); further = nat_lt left (length (units room bytes)) }
+
+-- The lines that end with a line feed.
+unfoldable pub ended_lines_of_parts : List (List ℕ) → List (List ℕ)
+ended_lines_of_parts [] = []
+ended_lines_of_parts (x ∷ []) = []
+ended_lines_of_parts (x ∷ y ∷ more) = strip_carriage_return x ∷ ended_lines_of_parts (y ∷ more)
+
+-- The lines to come. Where the script goes on after these bytes, what comes after the last line feed is no line yet.
+unfoldable pub lines_ahead : Ahead ℕ → Ahead (List ℕ)
+lines_ahead a = record {
+  items = map shortened (let parts = slice_split (λ b. b == 10) a.items in if a.further then ended_lines_of_parts parts else lines_of_parts parts);
+  further = a.further;
+}
+
+-- Where a script stands before a line: between two commands, or in the text of one, after so much of it.
+pub data Place : Type 0 where
+  Between : Place
+  InText : List ℕ → List ℕ → List ℕ → Place
+
+-- The commands of some lines. A text that isn't ended is none, and where more lines may come its command isn't whole.
+unfoldable pub commands : Bool → List (List ℕ) → Place → List Given
+commands further [] Between = []
+commands further [] (InText line word text) = if further then [] else record { line = line; here = None } ∷ []
+commands further (x ∷ xs) Between =
+    if is_skipped x then commands further xs Between
+    else option_map_or (λ word. commands further xs (InText x word [])) (here_word x) (record { line = x; here = None } ∷ commands further xs Between)
+commands further (x ∷ xs) (InText line word text) =
+    if bytes_eq x word then record { line = line; here = Some text } ∷ commands further xs Between
+    else commands further xs (InText line word (shortened (text ++ x ++ 10 ∷ [])))
+
+-- The commands to come.
+unfoldable pub commands_ahead : Place → Ahead (List ℕ) → Ahead Given
+commands_ahead place a = record { items = commands a.further a.items place; further = a.further }
+
+-- The commands to come, where this line stands before the lines.
+abbrev pub after_line : List ℕ → Ahead (List ℕ) → Ahead Given
+after_line line a = commands_ahead Between (record { items = line ∷ a.items; further = a.further })
+
+-- The command of a line that took this text, or for whose text the script ended too early.
+abbrev pub command_with : List ℕ → Next (List ℕ) → Next Given
+command_with line (Item text) = Item (record { line = line; here = Some text })
+command_with line End = Item (record { line = line; here = None })
+command_with line TooMany = TooMany
+
+-- The commands of the first 10,000,000 units of some bytes, and whether there are more. Where more bytes may come after
+-- these, a last line without its line feed is no line yet, and a text that isn't ended is no part of a command yet.
+unfoldable pub commands_in : List ℕ → Bool → Ahead Given
+commands_in bytes more = commands_ahead Between (lines_ahead (or_more more (within 10000000 1000000 bytes)))
+
+-- A script: the commands of its first 10,000,000 units, and whether it goes on after them.
+abbrev pub script : List ℕ → Ahead Given
+script bytes = commands_in bytes false
+
+-- The commands that stand whole, with all their line ends, in some bytes.
+abbrev pub whole_commands : List ℕ → List Given
+whole_commands bytes = (commands_in bytes true).items
+
+-- A script goes on after its first units exactly where it has more than 10,000,000.
+pub script-further : (bytes : List ℕ) → (script bytes).further ≡ nat_lt 10000000 (unit_count bytes)
+unfolding commands_in commands_ahead lines_ahead within
+script-further bytes = refl

@@ -1,0 +1,5 @@
+pub mod Codes
+pub mod PlainSession
+pub mod Session
+pub mod Transcript
+pub mod Words
