@@ -1,0 +1,16 @@
+pub mod Comments
+pub mod Composing
+pub mod Fronts
+pub mod Holes
+pub mod Laws
+pub mod Lengths
+pub mod Marks
+pub mod Names
+pub mod Numerals
+pub mod Proper
+pub mod Quoted
+pub mod Relied
+pub mod Runs
+pub mod Spelled
+pub mod Spells
+pub mod Views

@@ -1,0 +1,221 @@
+-- The machine reads the symbols of a node, item after item.
+use Rattle.std.proofs.Common.{◌≡◌, ℕ, Bool, true, false, ◌&&◌, ◌||◌, if◌then◌else◌, List, [], ◌∷◌, ◌++◌, Option, Some, None, refl, ap, ◌∙◌, append_assoc, append-nil}
+use Rattle.pc_syntax.specs.declared.lexeme.Lexeme.{Lexeme}
+use Rattle.pc_syntax.specs.declared.lexeme.Lexeme.TheVariants as lexeme
+use Rattle.pc_syntax.specs.declared.kind.Kind.{Kind}
+use Rattle.pc_syntax.specs.declared.kind.Kind.TheVariants as kind
+use Rattle.pc_syntax.specs.declared.class.Class.{Class}
+use Rattle.pc_syntax.specs.declared.item.Item.{Item}
+use Rattle.pc_syntax.specs.declared.item.Item.TheVariants.{Literal, Word, Kid}
+use Rattle.pc_syntax.specs.Plain.{Forest, Nil, Cons, Plain, kinds, trees_of, forest_of}
+use Rattle.pc_syntax.specs.Classes.{has}
+use Rattle.pc_syntax.specs.Symbols.{Sym, fill, texts, symbols}
+use Rattle.pc_syntax.specs.WellFormed.{fits, opens, last_open}
+use Rattle.pc_parse.specs.Lookahead.{same, look, word_at}
+use Rattle.pc_parse.specs.Tables.{start, switch, again}
+use Rattle.pc_parse.specs.Machine.{Frame, frame, State, Reading, Holding, on_start, on_switch, on_again, awaited_by}
+use Rattle.pc_parse.specs.Runs.{make_plain, Go, apply, step}
+use Rattle.pc_parse.proofs.Entries.{each, implies, implies_true, &&_split, all_lookaheads, all_kinds, at_kind, at_lookahead, &&_join}
+use Rattle.pc_parse.proofs.Follows.{known, corner, follow, tail, corner_of, tail_after, give_after}
+use Rattle.pc_parse.proofs.TableTests.{same_class, same_class_eq, same_look}
+use Rattle.pc_parse.proofs.Leading.{Leads, one, stays, onward}
+
+-- a node without notes, of a forest of kids
+abbrev pub bare : Kind → List ℕ → Forest → Plain
+bare k w ks = record { kind = k; word = w; notes = []; kids = ks }
+
+pub trees_back : (ts : Forest) → forest_of (trees_of ts) ≡ ts
+trees_back Nil = refl
+trees_back (Cons k w ns ks ts) = ap (Cons k w ns ks) (trees_back ts)
+
+-- a node that ends open isn't followed by else
+pub record Quiet (k : Kind) (ks : Forest) (x : Option Lexeme) : Type 0 where
+  pub closed : x ≡ Some lexeme.KeyElse → opens k (last_open ks) ≡ false
+
+-- The state begins a node of the class over the frames.
+abbrev pub Begins : Class → State Plain → Class → List (Frame Plain) → List Sym → Type 0
+Begins root st c fs ys = step root st ys ≡ apply (on_start make_plain (start c (look ys)) (word_at ys) fs) ys
+
+-- The node's symbols lead from a kid awaited to the node held.
+abbrev pub Found : Kind → List ℕ → Forest → Type 0
+Found k w ks =
+    (root c : Class) (st : State Plain) (m : List Item) (fs : List (Frame Plain)) (rest : List Sym)
+    → Begins root st c fs (symbols k w ks ++ rest) → awaited_by root fs ≡ Some (c, m) → corner c k ≡ true → tail c k (look rest) ≡ true → Quiet k ks (look rest)
+    → Leads root st (symbols k w ks ++ rest) (Holding k (bare k w ks) fs) rest
+
+-- whether a node of the kind before the symbol s may begin with x, or be blank and x be s; said only where it matters
+abbrev pub first : Kind → Option Lexeme → Option Lexeme → Bool
+first kind.Name s x = same_look x (Some lexeme.Identifier)
+first kind.Names s x = same_look x (Some lexeme.Identifier)
+first kind.Vardef s x = same_look x (Some lexeme.Identifier)
+first kind.Compound s x = same_look x (Some lexeme.KeyBegin)
+first kind.Vars s x = same_look x (Some lexeme.KeyVar) || same_look x s
+first kind.Args s x = same_look x (Some lexeme.OpenParen) || same_look x s
+first kind.Consts s x = same_look x s
+first kind.Types s x = same_look x s
+first kind.Routines s x = same_look x s
+first k s x = true
+
+abbrev pub Front : Kind → List ℕ → Forest → Type 0
+Front k w ks = (rest : List Sym) → first k (look rest) (look (symbols k w ks ++ rest)) ≡ true
+
+-- each tree is of a known kind, has no notes, begins as its kind does and is read
+abbrev pub AllRead : Forest → Type 0
+AllRead Nil = Unit {0}
+AllRead (Cons k w ns ks ts) = (known k ≡ true) × (ns ≡ []) × Front k w ks × Found k w ks × AllRead ts
+
+-- what follows each kid lets it end there
+abbrev pub Okay : List Item → List ℕ → Forest → List Sym → Type 0
+Okay [] w ts rest = Unit {0}
+Okay (Literal x ∷ l) w ts rest = Okay l w ts rest
+Okay (Word x ∷ l) w ts rest = Okay l w ts rest
+Okay (Kid c ∷ l) w Nil rest = Unit {0}
+Okay (Kid c ∷ l) w (Cons k v ns ks ts) rest =
+    (follow c (look (fill l w (texts ts) ++ rest)) ≡ true) × Quiet k ks (look (fill l w (texts ts) ++ rest)) × Okay l w ts rest
+
+-- what is left of a node's items after a symbol that is no word
+abbrev pub after_literal : Kind → List Item → Lexeme → Option (Kind × List Item)
+after_literal k [] x = switch k [] (Some x)
+after_literal k (Literal y ∷ m) x = if same y x then Some (k, m) else switch k (Literal y ∷ m) (Some x)
+after_literal k (Word y ∷ m) x = None
+after_literal k (Kid c ∷ m) x = None
+
+-- whether a node whose items are done takes a further kid of the class, which it knows by its first symbol
+abbrev pub is_no_switch : Option (Kind × List Item) → Bool
+is_no_switch None = true
+is_no_switch (Some p) = false
+
+abbrev pub is_again : Option Class → Class → Bool
+is_again None c = false
+is_again (Some d) c = same_class d c
+
+abbrev pub resumes_at : Kind → Class → Option Lexeme → Bool
+resumes_at k c x = is_no_switch (switch k [] x) && is_again (again k x) c
+
+abbrev pub resumes : Kind → Class → Bool
+resumes k c = each (λ i. implies (has c i && known i) (each (λ s. each (λ x. implies (first i s x) (resumes_at k c x)) all_lookaheads) all_lookaheads)) all_kinds
+
+abbrev pub Switched : Option (Kind × List Item) → (Kind → List Item → Type 0) → Type 0
+Switched None P = ⊥
+Switched (Some p) P = P p.0 p.1
+
+-- A node of kind k that awaits m goes through the items of l and is then of kind j and awaits n.
+abbrev pub Tracks : Kind → List Item → List Item → Kind → List Item → Type 0
+Tracks k m [] j n = (k ≡ j) × (m ≡ n)
+Tracks k m (Literal x ∷ l) j n = Switched (after_literal k m x) (λ i o. Tracks i o l j n)
+Tracks k m (Word x ∷ l) j n = ⊥
+Tracks k [] (Kid c ∷ l) j n = (resumes k c ≡ true) × Tracks k [] l j n
+Tracks k (Literal x ∷ m) (Kid c ∷ l) j n = ⊥
+Tracks k (Word x ∷ m) (Kid c ∷ l) j n = ⊥
+Tracks k (Kid d ∷ m) (Kid c ∷ l) j n = (d ≡ c) × Tracks k m l j n
+
+switched : (o : Option (Kind × List Item)) (P : Kind → List Item → Type 0) → Switched o P → (k : Kind) × (m : List Item) × (o ≡ Some (k, m)) × P k m
+switched None P h = absurd h
+switched (Some p) P h = (p.0, p.1, refl, h)
+
+abbrev pub mark : Lexeme → Sym
+mark x = record { lexeme = x; spelling = [] }
+
+-- the step over a symbol that is no word
+over_literal : (root : Class) (k : Kind) (w : List ℕ) (kids : List Plain) (m : List Item) (fs : List (Frame Plain)) (x : Lexeme) (more : List Sym) (j : Kind) (n : List Item)
+    → after_literal k m x ≡ Some (j, n) → step root (Reading (frame k w kids m) fs) (mark x ∷ more) ≡ Go (Reading (frame j w kids n) fs) more
+over_literal root k w kids [] fs x more j n e =
+    ap (λ o. apply (on_switch make_plain o (on_again make_plain (again k (Some x)) (Some x) [] (frame k w kids []) fs) (frame k w kids []) fs) (mark x ∷ more)) e
+over_literal root k w kids (Literal y ∷ m) fs x more j n e = go (same y x) refl
+  where
+    some_fst : (p q : Kind × List Item) → Some p ≡ Some q → p ≡ q
+    some_fst p q h = cc
+
+    go : (b : Bool) → same y x ≡ b → step root (Reading (frame k w kids (Literal y ∷ m)) fs) (mark x ∷ more) ≡ Go (Reading (frame j w kids n) fs) more
+    go true h =
+        let is : Some (k, m) ≡ Some (j, n) = rw h at e in
+        let p : (k, m) ≡ (j, n) = some_fst (k, m) (j, n) is in
+        rw h (ap (λ (q : Kind × List Item). Go (Reading (frame q.0 w kids q.1) fs) more) p)
+    go false h =
+        let is : switch k (Literal y ∷ m) (Some x) ≡ Some (j, n) = rw h at e in
+        rw (h, is) refl
+over_literal root k w kids (Word y ∷ m) fs x more j n e = cc
+over_literal root k w kids (Kid c ∷ m) fs x more j n e = cc
+
+no_switch : (o : Option (Kind × List Item)) → is_no_switch o ≡ true → o ≡ None
+no_switch None h = refl
+no_switch (Some p) h = cc
+
+again_class : (o : Option Class) (c : Class) → is_again o c ≡ true → (d : Class) × (o ≡ Some d) × (same_class d c ≡ true)
+again_class None c h = cc
+again_class (Some d) c h = (d, refl, h)
+
+-- a node whose items are done takes a further kid of the class
+resumed : (k : Kind) (c : Class) (i : Kind) (s x : Option Lexeme) → resumes k c ≡ true → has c i ≡ true → known i ≡ true → first i s x ≡ true
+    → (switch k [] x ≡ None) × (again k x ≡ Some c)
+resumed k c i s x test member is_known begins =
+    let by_kind : each (λ z. each (λ y. implies (first i z y) (resumes_at k c y)) all_lookaheads) all_lookaheads ≡ true =
+    implies_true _ _ (at_kind (λ j. implies (has c j && known j) (each (λ z. each (λ y. implies (first j z y) (resumes_at k c y)) all_lookaheads) all_lookaheads)) i test) (&&_join _ _ member is_known) in
+    let by_next : each (λ y. implies (first i s y) (resumes_at k c y)) all_lookaheads ≡ true = at_lookahead (λ z. each (λ y. implies (first i z y) (resumes_at k c y)) all_lookaheads) s by_kind in
+    let found : resumes_at k c x ≡ true = implies_true _ _ (at_lookahead (λ y. implies (first i s y) (resumes_at k c y)) x by_next) begins in
+    let p = &&_split _ _ found in
+    let d = again_class (again k x) c p.1 in
+    (no_switch _ p.0, d.1 ∙ ap Some (same_class_eq d.0 c d.2))
+
+pub arrive : (root : Class) (a : State Plain) (xs : List Sym) (b d : State Plain) (ys : List Sym) → b ≡ d → Leads root a xs b ys → Leads root a xs d ys
+arrive root a xs b d ys e h = rw (← e) h
+
+one_more : (kids : List Plain) (i : Kind) (v : List ℕ) (ns : List (List ℕ)) (is ts : Forest) → ns ≡ [] → (kids ++ bare i v is ∷ []) ++ trees_of ts ≡ kids ++ trees_of (Cons i v ns is ts)
+one_more kids i v ns is ts e = rw e (append_assoc kids (bare i v is ∷ []) (trees_of ts))
+
+-- a row of the items of a node: kids and all between
+pub reads_front : (root : Class) (l : List Item) (ts : Forest) (k : Kind) (m : List Item) (j : Kind) (n : List Item) (w : List ℕ) (kids : List Plain) (fs : List (Frame Plain)) (rest : List Sym)
+    → AllRead ts → fits l (kinds ts) ≡ true → Okay l w ts rest → Tracks k m l j n
+    → Leads root (Reading (frame k w kids m) fs) (fill l w (texts ts) ++ rest) (Reading (frame j w (kids ++ trees_of ts) n) fs) rest
+reads_front root [] Nil k m j n w kids fs rest all fit okay track = rw (track.0, track.1, append-nil kids) (stays root (Reading (frame j w kids n) fs) rest)
+reads_front root [] (Cons i v ns is ts) k m j n w kids fs rest all fit okay track = cc
+reads_front root (Literal x ∷ l) ts k m j n w kids fs rest all fit okay track =
+    let s = switched (after_literal k m x) _ track in
+    onward (one root _ _ _ _ (over_literal root k w kids m fs x (fill l w (texts ts) ++ rest) s.0 s.1 s.2))
+    (reads_front root l ts s.0 s.1 j n w kids fs rest all fit okay s.3)
+reads_front root (Word x ∷ l) ts k m j n w kids fs rest all fit okay track = absurd track
+reads_front root (Kid c ∷ l) Nil k m j n w kids fs rest all fit okay track = cc
+reads_front root (Kid c ∷ l) (Cons i v ns is ts) k (Literal y ∷ m) j n w kids fs rest all fit okay track = absurd track
+reads_front root (Kid c ∷ l) (Cons i v ns is ts) k (Word y ∷ m) j n w kids fs rest all fit okay track = absurd track
+reads_front root (Kid c ∷ l) (Cons i v ns is ts) k [] j n w kids fs rest all fit okay track =
+    let more = fill l w (texts ts) ++ rest in
+    let f = frame k w kids (Kid c ∷ []) in
+    let ys = symbols i v is ++ more in
+    let member : has c i ≡ true = (&&_split _ _ fit).0 in
+    let way : (switch k [] (look ys) ≡ None) × (again k (look ys) ≡ Some c) = resumed k c i (look more) (look ys) track.0 member all.0 (all.2 more) in
+    let begins : Begins root (Reading (frame k w kids []) fs) c (f ∷ fs) ys = rw (way.0, way.1) refl in
+    let given : step root (Holding i (bare i v is) (f ∷ fs)) more ≡ Go (Reading (frame k w (kids ++ bare i v is ∷ []) []) fs) more = rw (give_after c i (look more) member okay.0, member) refl in
+    rw (append_assoc (symbols i v is) (fill l w (texts ts)) rest, ← one_more kids i v ns is ts all.1)
+    (onward (all.3 root c (Reading (frame k w kids []) fs) [] (f ∷ fs) more begins refl (corner_of c i (look more) member okay.0) (tail_after c i (look more) member okay.0) okay.1)
+    (onward (one root _ _ _ _ given)
+    (reads_front root l ts k [] j n w (kids ++ bare i v is ∷ []) fs rest all.4 (&&_split _ _ fit).1 okay.2 track.1)))
+reads_front root (Kid c ∷ l) (Cons i v ns is ts) k (Kid d ∷ m) j n w kids fs rest all fit okay track =
+    let more = fill l w (texts ts) ++ rest in
+    let f = frame k w kids (Kid c ∷ m) in
+    let member : has c i ≡ true = (&&_split _ _ fit).0 in
+    let given : step root (Holding i (bare i v is) (f ∷ fs)) more ≡ Go (Reading (frame k w (kids ++ bare i v is ∷ []) m) fs) more = rw (give_after c i (look more) member okay.0, member) refl in
+    rw (append_assoc (symbols i v is) (fill l w (texts ts)) rest, ← one_more kids i v ns is ts all.1, track.0)
+    (onward (all.3 root c (Reading f fs) m (f ∷ fs) more refl refl (corner_of c i (look more) member okay.0) (tail_after c i (look more) member okay.0) okay.1)
+    (onward (one root _ _ _ _ given)
+    (reads_front root l ts k m j n w (kids ++ bare i v is ∷ []) fs rest all.4 (&&_split _ _ fit).1 okay.2 track.1)))
+
+abbrev pub is_no_class : Option Class → Bool
+is_no_class None = true
+is_no_class (Some c) = false
+
+-- a node of the kind whose items are done ends before the symbol
+abbrev pub halts : Kind → Option Lexeme → Bool
+halts k x = is_no_switch (switch k [] x) && is_no_class (again k x)
+
+no_class : (o : Option Class) → is_no_class o ≡ true → o ≡ None
+no_class None h = refl
+no_class (Some c) h = cc
+
+-- the rest of a node
+pub reads_items : (root : Class) (l : List Item) (ts : Forest) (k : Kind) (m : List Item) (j : Kind) (w : List ℕ) (kids : List Plain) (fs : List (Frame Plain)) (rest : List Sym)
+    → AllRead ts → fits l (kinds ts) ≡ true → Okay l w ts rest → Tracks k m l j [] → halts j (look rest) ≡ true
+    → Leads root (Reading (frame k w kids m) fs) (fill l w (texts ts) ++ rest) (Holding j (make_plain j w (kids ++ trees_of ts)) fs) rest
+reads_items root l ts k m j w kids fs rest all fit okay track end =
+    let p = &&_split _ _ end in
+    let ended : step root (Reading (frame j w (kids ++ trees_of ts) []) fs) rest ≡ Go (Holding j (make_plain j w (kids ++ trees_of ts)) fs) rest = rw (no_switch (switch j [] (look rest)) p.0, no_class (again j (look rest)) p.1) refl in
+    onward (reads_front root l ts k m j [] w kids fs rest all fit okay track) (one root _ _ _ _ ended)

@@ -1,0 +1,267 @@
+-- A node that goes on at a symbol that isn't its next item is the front of a node all the same; and an open statement isn't followed by `else`.
+use Rattle.std.proofs.Common.{◌≡◌, ℕ, zero, suc, ◌+◌, Bool, true, false, not, List, [], ◌∷◌, ◌++◌, Option, Some, None, refl, ap, sym, ◌∙◌, append_assoc, append-nil, add-zero, arith}
+use Rattle.std.proofs.lemmas.List.{append_cancel_right}
+use Rattle.pc_syntax.specs.declared.lexeme.Lexeme.{Lexeme}
+use Rattle.pc_syntax.specs.declared.lexeme.Lexeme.TheVariants as lexeme
+use Rattle.pc_syntax.specs.declared.kind.Kind.{Kind}
+use Rattle.pc_syntax.specs.declared.kind.Kind.TheVariants as kind
+use Rattle.pc_syntax.specs.declared.class.Class.{Class}
+use Rattle.pc_syntax.specs.declared.class.Class.TheVariants as class
+use Rattle.pc_syntax.specs.declared.item.Item.{Item}
+use Rattle.pc_syntax.specs.declared.item.Item.TheVariants.{Literal, Word, Kid}
+use Rattle.pc_syntax.specs.Plain.{Forest, Nil, Cons, count, kinds}
+use Rattle.pc_syntax.specs.Layout.{further, elements, some_elements}
+use Rattle.pc_syntax.specs.Symbols.{Sym}
+use Rattle.pc_syntax.specs.WellFormed.{fits, opens, last_open, second_open}
+use Rattle.pc_parse.specs.Tables.{switch, again}
+use Rattle.pc_parse.proofs.Entries.{&&_split}
+use Rattle.pc_parse.proofs.SoundTables.{corner, is_mark, is_empty}
+use Rattle.pc_parse.proofs.SoundFrames.{true-false, some_eq, mark, past_second, FrontOk, mark_front}
+
+abbrev pub ends_kid : List Item → Bool
+ends_kid [] = false
+ends_kid (Kid c ∷ []) = true
+ends_kid (i ∷ m) = ends_kid m
+
+-- a last kid that ends open isn't followed by else
+pub record Calm (pre : List Item) (ks : Forest) (x : Option Lexeme) : Type 0 where
+  pub closed : ends_kid pre ≡ true → x ≡ Some lexeme.KeyElse → last_open ks ≡ false
+
+-- a node that ends open isn't followed by else
+pub record Quiet (k : Kind) (ks : Forest) (x : Option Lexeme) : Type 0 where
+  pub closed : x ≡ Some lexeme.KeyElse → opens k (last_open ks) ≡ false
+
+further_more : (x : Lexeme) (c : Class) (n : ℕ) (close : List Item) → further (Some x) c n [] ++ (Literal x ∷ Kid c ∷ close) ≡ further (Some x) c (suc n) close
+further_more x c zero close = refl
+further_more x c (suc n) close = ap (λ l. Literal x ∷ Kid c ∷ l) (further_more x c n close)
+
+further_close : (x : Lexeme) (c : Class) (n : ℕ) (close : List Item) → further (Some x) c n [] ++ close ≡ further (Some x) c n close
+further_close x c zero close = refl
+further_close x c (suc n) close = ap (λ l. Literal x ∷ Kid c ∷ l) (further_close x c n close)
+
+further_again : (c : Class) (n : ℕ) → further None c n [] ++ Kid c ∷ [] ≡ further None c (suc n) []
+further_again c zero = refl
+further_again c (suc n) = ap (λ l. Kid c ∷ l) (further_again c n)
+
+list_more : (x : Lexeme) (c : Class) (n : ℕ) (pre : List Item) → some_elements (Some x) c n ≡ Some pre → some_elements (Some x) c (suc n) ≡ Some ((pre ++ Literal x ∷ []) ++ Kid c ∷ [])
+list_more x c zero pre h = cc
+list_more x c (suc n) pre h =
+    let e : pre ≡ Kid c ∷ further (Some x) c n [] = cc in
+    rw (append_assoc pre (Literal x ∷ []) (Kid c ∷ []), e) (ap (λ l. Some (Kid c ∷ l)) (sym (further_more x c n [])))
+
+abbrev parens : Class → ℕ → Option (List Item)
+parens c n = elements (Literal lexeme.OpenParen ∷ []) (Some lexeme.Comma) c (Literal lexeme.CloseParen ∷ []) n
+
+parens_more : (c : Class) (n : ℕ) (pre : List Item) → parens c n ≡ Some (pre ++ Literal lexeme.CloseParen ∷ []) → parens c (suc n) ≡ Some ((pre ++ Literal lexeme.Comma ∷ []) ++ (Kid c ∷ Literal lexeme.CloseParen ∷ []))
+parens_more c zero [] h = cc
+parens_more c zero (i ∷ pre) h = cc
+parens_more c (suc n) pre h =
+    let front = Literal lexeme.OpenParen ∷ Kid c ∷ further (Some lexeme.Comma) c n [] in
+    let close = Literal lexeme.CloseParen ∷ [] in
+    let e : front ≡ pre = append_cancel_right front pre close (ap (λ l. Literal lexeme.OpenParen ∷ Kid c ∷ l) (further_close lexeme.Comma c n close) ∙ some_eq _ _ h) in
+    rw (append_assoc pre (Literal lexeme.Comma ∷ []) (Kid c ∷ close), ← e) (ap (λ l. Some (Literal lexeme.OpenParen ∷ Kid c ∷ l)) (sym (further_more lexeme.Comma c n close)))
+
+vars_more : (n : ℕ) (pre : List Item) → elements (Literal lexeme.KeyVar ∷ []) None class.Vardef [] n ≡ Some pre → is_empty pre ≡ false
+    → elements (Literal lexeme.KeyVar ∷ []) None class.Vardef [] (suc n) ≡ Some (pre ++ Kid class.Vardef ∷ [])
+vars_more zero [] h e = true-false e
+vars_more zero (i ∷ pre) h e = cc
+vars_more (suc n) pre h e =
+    let front : pre ≡ Literal lexeme.KeyVar ∷ Kid class.Vardef ∷ further None class.Vardef n [] = sym (some_eq _ _ h) in
+    rw front (ap (λ l. Some (Literal lexeme.KeyVar ∷ Kid class.Vardef ∷ l)) (sym (further_again class.Vardef n)))
+
+if_kids : (ks : Forest) → fits (Literal lexeme.KeyIf ∷ Kid class.Expression ∷ Literal lexeme.KeyThen ∷ Kid class.Statement ∷ []) (kinds ks) ≡ true → (past_second kind.Ifelse ks ≡ true) × (second_open ks ≡ last_open ks)
+if_kids Nil h = cc
+if_kids (Cons a u ls hs Nil) h = true-false (sym (&&_split _ _ h).1)
+if_kids (Cons a u ls hs (Cons b v ms bs Nil)) h = (refl, refl)
+if_kids (Cons a u ls hs (Cons b v ms bs (Cons d z ns ds ts))) h = true-false (sym (&&_split _ _ (&&_split _ _ h).1).1)
+
+if_corner : (c : Class) → corner c kind.If ≡ true → corner c kind.Ifelse ≡ true
+if_corner class.Program h = cc
+if_corner _ h = cc
+
+first_eq : (p q : Kind × List Item) → Some p ≡ Some q → q.0 ≡ p.0
+first_eq p q e = sym (ap (λ (r : Kind × List Item). r.0) (some_eq p q e))
+
+second_eq : (p q : Kind × List Item) → Some p ≡ Some q → q.1 ≡ p.1
+second_eq p q e = sym (ap (λ (r : Kind × List Item). r.1) (some_eq p q e))
+
+pub record Switching (j : Kind) (w : List ℕ) (ks : Forest) (x : Lexeme) (k : Kind) (m pre : List Item) (text : List Sym) : Type 0 where
+  pub front : FrontOk k w ks m (pre ++ Literal x ∷ []) (text ++ mark x ∷ [])
+  pub marked : is_mark x ≡ true
+  pub corners : (c : Class) → corner c j ≡ true → corner c k ≡ true
+
+pub none-some : {A B : Type 0} (x : A) → None ≡ Some x → B
+none-some x h = cc
+
+add_one : (n : ℕ) → n + 1 ≡ suc n
+add_one n = omega arith
+
+-- The items, the symbol, and what comes of them.
+record Goes (items : List Item) (x : Lexeme) (p : Kind × List Item) (items2 : List Item) (x2 : Lexeme) (k : Kind) (m : List Item) : Type 0 where
+  items_are : items ≡ items2
+  symbol_is : x ≡ x2
+  kind_is : p.0 ≡ k
+  more_are : p.1 ≡ m
+
+if_switch : (items : List Item) (x : Lexeme) (p : Kind × List Item) → switch kind.If items (Some x) ≡ Some p → Goes items x p [] lexeme.KeyElse kind.Ifelse (Kid class.Statement ∷ [])
+if_switch [] lexeme.KeyElse p e = record { items_are = refl; symbol_is = refl; kind_is = first_eq _ _ e; more_are = second_eq _ _ e }
+if_switch _ _ p e = none-some p e
+
+if_more : (w : List ℕ) (ks : Forest) (pre : List Item) (text : List Sym) → FrontOk kind.If w ks [] pre text → Calm pre ks (Some lexeme.KeyElse)
+    → Switching kind.If w ks lexeme.KeyElse kind.Ifelse (Kid class.Statement ∷ []) pre text
+if_more (b ∷ w) ks pre text ok calm = none-some _ ok.laid
+if_more [] ks pre text ok calm =
+    let h = ok.laid in
+    let front : pre ≡ Literal lexeme.KeyIf ∷ Kid class.Expression ∷ Literal lexeme.KeyThen ∷ Kid class.Statement ∷ [] = sym (some_eq _ _ (h ∙ ap Some (append-nil pre))) in
+    let two = if_kids ks (rw front at ok.fit) in
+    let ends : ends_kid pre ≡ true = rw front refl in record {
+      front = mark_front kind.If [] ks [] lexeme.KeyElse kind.Ifelse (Kid class.Statement ∷ []) pre text ok (rw front refl) (two.1 ∙ calm.closed ends refl) two.0 refl;
+      marked = refl;
+      corners = if_corner;
+    }
+
+stmts_switch : (items : List Item) (x : Lexeme) (p : Kind × List Item) → switch kind.Stmts items (Some x) ≡ Some p → Goes items x p [] lexeme.Semicolon kind.Stmts (Kid class.Statement ∷ [])
+stmts_switch [] lexeme.Semicolon p e = record { items_are = refl; symbol_is = refl; kind_is = first_eq _ _ e; more_are = second_eq _ _ e }
+stmts_switch _ _ p e = none-some p e
+
+stmts_more : (w : List ℕ) (ks : Forest) (pre : List Item) (text : List Sym) → FrontOk kind.Stmts w ks [] pre text → Switching kind.Stmts w ks lexeme.Semicolon kind.Stmts (Kid class.Statement ∷ []) pre text
+stmts_more (b ∷ w) ks pre text ok = none-some _ ok.laid
+stmts_more [] ks pre text ok =
+    let laid : some_elements (Some lexeme.Semicolon) class.Statement (count ks) ≡ Some pre = rw (add-zero (count ks), append-nil pre) at ok.laid in record {
+      front = mark_front kind.Stmts [] ks [] lexeme.Semicolon kind.Stmts (Kid class.Statement ∷ []) pre text ok (rw (add_one (count ks)) (list_more lexeme.Semicolon class.Statement (count ks) pre laid)) refl refl refl;
+      marked = refl;
+      corners = λ c h. h;
+    }
+
+exprs_switch : (items : List Item) (x : Lexeme) (p : Kind × List Item) → switch kind.Exprs items (Some x) ≡ Some p → Goes items x p [] lexeme.Comma kind.Exprs (Kid class.Expression ∷ [])
+exprs_switch [] lexeme.Comma p e = record { items_are = refl; symbol_is = refl; kind_is = first_eq _ _ e; more_are = second_eq _ _ e }
+exprs_switch _ _ p e = none-some p e
+
+exprs_more : (w : List ℕ) (ks : Forest) (pre : List Item) (text : List Sym) → FrontOk kind.Exprs w ks [] pre text → Switching kind.Exprs w ks lexeme.Comma kind.Exprs (Kid class.Expression ∷ []) pre text
+exprs_more (b ∷ w) ks pre text ok = none-some _ ok.laid
+exprs_more [] ks pre text ok =
+    let laid : some_elements (Some lexeme.Comma) class.Expression (count ks) ≡ Some pre = rw (add-zero (count ks), append-nil pre) at ok.laid in record {
+      front = mark_front kind.Exprs [] ks [] lexeme.Comma kind.Exprs (Kid class.Expression ∷ []) pre text ok (rw (add_one (count ks)) (list_more lexeme.Comma class.Expression (count ks) pre laid)) refl refl refl;
+      marked = refl;
+      corners = λ c h. h;
+    }
+
+names_switch : (items : List Item) (x : Lexeme) (p : Kind × List Item) → switch kind.Names items (Some x) ≡ Some p → Goes items x p [] lexeme.Comma kind.Names (Kid class.Name ∷ [])
+names_switch [] lexeme.Comma p e = record { items_are = refl; symbol_is = refl; kind_is = first_eq _ _ e; more_are = second_eq _ _ e }
+names_switch _ _ p e = none-some p e
+
+names_more : (w : List ℕ) (ks : Forest) (pre : List Item) (text : List Sym) → FrontOk kind.Names w ks [] pre text → Switching kind.Names w ks lexeme.Comma kind.Names (Kid class.Name ∷ []) pre text
+names_more (b ∷ w) ks pre text ok = none-some _ ok.laid
+names_more [] ks pre text ok =
+    let laid : some_elements (Some lexeme.Comma) class.Name (count ks) ≡ Some pre = rw (add-zero (count ks), append-nil pre) at ok.laid in record {
+      front = mark_front kind.Names [] ks [] lexeme.Comma kind.Names (Kid class.Name ∷ []) pre text ok (rw (add_one (count ks)) (list_more lexeme.Comma class.Name (count ks) pre laid)) refl refl refl;
+      marked = refl;
+      corners = λ c h. h;
+    }
+
+args_switch : (items : List Item) (x : Lexeme) (p : Kind × List Item) → switch kind.Args items (Some x) ≡ Some p
+    → Goes items x p (Literal lexeme.CloseParen ∷ []) lexeme.Comma kind.Args (Kid class.Argument ∷ Literal lexeme.CloseParen ∷ [])
+args_switch (Literal lexeme.CloseParen ∷ []) lexeme.Comma p e = record { items_are = refl; symbol_is = refl; kind_is = first_eq _ _ e; more_are = second_eq _ _ e }
+args_switch _ _ p e = none-some p e
+
+args_more : (w : List ℕ) (ks : Forest) (pre : List Item) (text : List Sym) → FrontOk kind.Args w ks (Literal lexeme.CloseParen ∷ []) pre text
+    → Switching kind.Args w ks lexeme.Comma kind.Args (Kid class.Argument ∷ Literal lexeme.CloseParen ∷ []) pre text
+args_more (b ∷ w) ks pre text ok = none-some _ ok.laid
+args_more [] ks pre text ok =
+    let close = Literal lexeme.CloseParen ∷ [] in
+    let laid : parens class.Argument (count ks) ≡ Some (pre ++ close) = rw (add-zero (count ks)) at ok.laid in record {
+      front = mark_front kind.Args [] ks close lexeme.Comma kind.Args (Kid class.Argument ∷ close) pre text ok (rw (add_one (count ks)) (parens_more class.Argument (count ks) pre laid)) refl refl refl;
+      marked = refl;
+      corners = λ c h. h;
+    }
+
+heads_switch : (items : List Item) (x : Lexeme) (p : Kind × List Item) → switch kind.Heads items (Some x) ≡ Some p
+    → Goes items x p (Literal lexeme.CloseParen ∷ []) lexeme.Comma kind.Heads (Kid class.Name ∷ Literal lexeme.CloseParen ∷ [])
+heads_switch (Literal lexeme.CloseParen ∷ []) lexeme.Comma p e = record { items_are = refl; symbol_is = refl; kind_is = first_eq _ _ e; more_are = second_eq _ _ e }
+heads_switch _ _ p e = none-some p e
+
+heads_more : (w : List ℕ) (ks : Forest) (pre : List Item) (text : List Sym) → FrontOk kind.Heads w ks (Literal lexeme.CloseParen ∷ []) pre text
+    → Switching kind.Heads w ks lexeme.Comma kind.Heads (Kid class.Name ∷ Literal lexeme.CloseParen ∷ []) pre text
+heads_more (b ∷ w) ks pre text ok = none-some _ ok.laid
+heads_more [] ks pre text ok =
+    let close = Literal lexeme.CloseParen ∷ [] in
+    let laid : parens class.Name (count ks) ≡ Some (pre ++ close) = rw (add-zero (count ks)) at ok.laid in record {
+      front = mark_front kind.Heads [] ks close lexeme.Comma kind.Heads (Kid class.Name ∷ close) pre text ok (rw (add_one (count ks)) (parens_more class.Name (count ks) pre laid)) refl refl refl;
+      marked = refl;
+      corners = λ c h. h;
+    }
+
+pub switched_ok : (j : Kind) (w : List ℕ) (ks : Forest) (items : List Item) (x : Lexeme) (k : Kind) (m pre : List Item) (text : List Sym)
+    → switch j items (Some x) ≡ Some (k, m) → FrontOk j w ks items pre text → Calm pre ks (Some x) → Switching j w ks x k m pre text
+switched_ok kind.If w ks items x k m pre text e ok calm = let g = if_switch items x (k, m) e in rw (g.symbol_is, g.kind_is, g.more_are) (if_more w ks pre text (rw g.items_are at ok) (rw g.symbol_is at calm))
+switched_ok kind.Stmts w ks items x k m pre text e ok calm = let g = stmts_switch items x (k, m) e in rw (g.symbol_is, g.kind_is, g.more_are) (stmts_more w ks pre text (rw g.items_are at ok))
+switched_ok kind.Exprs w ks items x k m pre text e ok calm = let g = exprs_switch items x (k, m) e in rw (g.symbol_is, g.kind_is, g.more_are) (exprs_more w ks pre text (rw g.items_are at ok))
+switched_ok kind.Names w ks items x k m pre text e ok calm = let g = names_switch items x (k, m) e in rw (g.symbol_is, g.kind_is, g.more_are) (names_more w ks pre text (rw g.items_are at ok))
+switched_ok kind.Args w ks items x k m pre text e ok calm = let g = args_switch items x (k, m) e in rw (g.symbol_is, g.kind_is, g.more_are) (args_more w ks pre text (rw g.items_are at ok))
+switched_ok kind.Heads w ks items x k m pre text e ok calm = let g = heads_switch items x (k, m) e in rw (g.symbol_is, g.kind_is, g.more_are) (heads_more w ks pre text (rw g.items_are at ok))
+switched_ok _ w ks items x k m pre text e ok calm = none-some (k, m) e
+
+-- at the end nothing goes on
+pub switch_none : (j : Kind) (items : List Item) → switch j items None ≡ None
+switch_none kind.If [] = refl
+switch_none kind.Stmts [] = refl
+switch_none kind.Exprs [] = refl
+switch_none kind.Names [] = refl
+switch_none kind.Args (Literal lexeme.CloseParen ∷ []) = refl
+switch_none kind.Heads (Literal lexeme.CloseParen ∷ []) = refl
+switch_none _ _ = refl
+
+-- a list without separators goes on
+pub again_ok : (k : Kind) (w : List ℕ) (ks : Forest) (x : Option Lexeme) (c : Class) (pre : List Item) (text : List Sym)
+    → again k x ≡ Some c → FrontOk k w ks [] pre text → FrontOk k w ks (Kid c ∷ []) pre text
+again_ok kind.Vars (b ∷ w) ks (Some lexeme.Identifier) c pre text e ok = let h = ok.laid in cc
+again_ok kind.Vars [] ks (Some lexeme.Identifier) c pre text e ok =
+    let ec : c ≡ class.Vardef = sym (some_eq _ _ e) in
+    let laid : elements (Literal lexeme.KeyVar ∷ []) None class.Vardef [] (count ks) ≡ Some pre = rw (add-zero (count ks), append-nil pre) at ok.laid in
+    let begun : is_empty pre ≡ false = rw (append-nil pre) at ok.begun in
+    let number : count ks + 1 ≡ suc (count ks) = omega arith in
+    rw ec record {
+      laid = rw number (vars_more (count ks) pre laid begun);
+      fit = ok.fit;
+      good = ok.good;
+      text_is = ok.text_is;
+      rule = refl;
+      past = refl;
+      marked = refl;
+      begun = begins pre;
+    }
+  where
+    begins : (l : List Item) → is_empty (l ++ Kid class.Vardef ∷ []) ≡ false
+    begins [] = refl
+    begins (i ∷ l) = refl
+again_ok _ w ks _ c pre text e ok = cc
+
+-- a node that is done and doesn't go on at else doesn't end open
+pub quiet_of : (k : Kind) (w : List ℕ) (ks : Forest) (pre : List Item) (text : List Sym) (x : Option Lexeme)
+    → FrontOk k w ks [] pre text → Calm pre ks x → switch k [] x ≡ None → Quiet k ks x
+quiet_of kind.If w ks pre text x ok calm e = record { closed = λ h. let n : switch kind.If [] (Some lexeme.KeyElse) ≡ None = rw h at e in cc }
+quiet_of kind.Ifelse (b ∷ w) ks pre text x ok calm e = let h = ok.laid in cc
+quiet_of kind.Ifelse [] ks pre text x ok calm e =
+    let front : pre ≡ Literal lexeme.KeyIf ∷ Kid class.Expression ∷ Literal lexeme.KeyThen ∷ Kid class.Statement ∷ Literal lexeme.KeyElse ∷ Kid class.Statement ∷ [] = sym (some_eq _ _ (ok.laid ∙ ap Some (append-nil pre))) in
+    record { closed = λ h. calm.closed (rw front refl) h }
+quiet_of kind.While (b ∷ w) ks pre text x ok calm e = let h = ok.laid in cc
+quiet_of kind.While [] ks pre text x ok calm e =
+    let front : pre ≡ Literal lexeme.KeyWhile ∷ Kid class.Expression ∷ Literal lexeme.KeyDo ∷ Kid class.Statement ∷ [] = sym (some_eq _ _ (ok.laid ∙ ap Some (append-nil pre))) in
+    record { closed = λ h. calm.closed (rw front refl) h }
+quiet_of kind.For w ks pre text x ok calm e = let h = ok.laid in cc
+quiet_of kind.With w ks pre text x ok calm e = let h = ok.laid in cc
+quiet_of _ w ks pre text x ok calm e = record { closed = λ h. refl }
+
+pub no_kid_calm : (l : List Item) (x : Lexeme) (ks : Forest) (y : Option Lexeme) → Calm (l ++ Literal x ∷ []) ks y
+no_kid_calm l x ks y = record { closed = λ h e. true-false (sym h ∙ no_kid l) }
+  where
+    no_kid : (m : List Item) → ends_kid (m ++ Literal x ∷ []) ≡ false
+    no_kid [] = refl
+    no_kid (Literal z ∷ m) = no_kid m
+    no_kid (Word z ∷ m) = no_kid m
+    no_kid (Kid d ∷ []) = refl
+    no_kid (Kid d ∷ z ∷ m) = no_kid (z ∷ m)
+
+pub opens_less : (k : Kind) (b : Bool) → not (opens k true) ≡ true → opens k b ≡ false
+opens_less kind.Empty b h = cc
+opens_less _ b h = cc

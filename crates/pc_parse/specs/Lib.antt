@@ -1,0 +1,13 @@
+pub mod Answers
+pub mod Ends
+pub mod Energy
+pub mod Laws
+pub mod Lookahead
+pub mod Machine
+pub mod Measured
+pub mod Proper
+pub mod Reading
+pub mod Rows
+pub mod Runs
+pub mod Tables
+pub mod Views

@@ -1,0 +1,195 @@
+//! What becomes of a finished node where a kid of a class is awaited.
+
+ghost use Rattle.std.specs.Prelude.{◌≡◌};
+ghost use Rattle.pc_parse.specs.Tables.{multiplies, adds, relates, is_colon, takes_width, takes_relation, takes_sum, takes_product, grow_relation, grow_simple, grow_term, grow_access, grow_statement_name, grow_factor_name, grow_name, grow};
+ghost use Rattle.pc_parse.specs.Views.{grow_view};
+
+use crate::lexemes::next_spelling;
+use pc_syntax::{Class, Item, Kind, Lexeme};
+
+/// What becomes of a finished node: it is given as the awaited kid; or it becomes the first kid of
+/// a node, alone, or of one that goes on and takes the symbol, or that goes on without taking it.
+#[derive(Clone, Copy)]
+pub enum Growth {
+    Give,
+    Wrap(Kind),
+    Shift(Kind, &'static [u8], &'static [Item]),
+    Enter(Kind, &'static [Item]),
+}
+
+/// What becomes of a finished node of the kind where a kid of the class is awaited.
+pub fn node_growth(kind: Kind, class: Class, next: Option<Lexeme>) -> Growth
+    ensures { grow_view result ≡ grow kind class next }
+{
+    match kind {
+        Kind::Name => name_growth(class, next),
+        Kind::Ref | Kind::Index | Kind::Select => access_growth(class, next),
+        Kind::Number | Kind::Call | Kind::Parens | Kind::Mul => term_growth(class, next),
+        Kind::Add | Kind::Sign => simple_growth(class, next),
+        Kind::Rel => relation_growth(class, next),
+        _ => Growth::Give,
+    }
+}
+
+fn name_growth(class: Class, next: Option<Lexeme>) -> Growth
+    ensures { grow_view result ≡ grow_name class next }
+{
+    match class {
+        Class::Name => Growth::Give,
+        Class::Access => Growth::Wrap(Kind::Ref),
+        Class::Denoter => Growth::Wrap(Kind::Tname),
+        Class::Statement => statement_name_growth(next),
+        Class::Factor | Class::Term | Class::Simple | Class::Expression | Class::Argument => {
+            factor_name_growth(next)
+        }
+        _ => Growth::Give,
+    }
+}
+
+fn statement_name_growth(next: Option<Lexeme>) -> Growth
+    ensures { grow_view result ≡ grow_statement_name next }
+{
+    match next {
+        Some(Lexeme::Becomes) => Growth::Wrap(Kind::Ref),
+        Some(Lexeme::OpenBracket) => Growth::Wrap(Kind::Ref),
+        Some(Lexeme::Dot) => Growth::Wrap(Kind::Ref),
+        _ => Growth::Enter(Kind::Proc, &[Item::Kid(Class::Args)]),
+    }
+}
+
+fn factor_name_growth(next: Option<Lexeme>) -> Growth
+    ensures { grow_view result ≡ grow_factor_name next }
+{
+    match next {
+        Some(Lexeme::OpenParen) => Growth::Shift(
+            Kind::Call,
+            b"",
+            &[Item::Kid(Class::Exprs), Item::Literal(Lexeme::CloseParen)],
+        ),
+        _ => Growth::Wrap(Kind::Ref),
+    }
+}
+
+fn access_growth(class: Class, next: Option<Lexeme>) -> Growth
+    ensures { grow_view result ≡ grow_access class next }
+{
+    match next {
+        Some(Lexeme::OpenBracket) => Growth::Shift(
+            Kind::Index,
+            b"",
+            &[Item::Kid(Class::Exprs), Item::Literal(Lexeme::CloseBracket)],
+        ),
+        Some(Lexeme::Dot) => Growth::Shift(Kind::Select, b"", &[Item::Kid(Class::Name)]),
+        Some(Lexeme::Becomes) => match class {
+            Class::Statement => Growth::Shift(Kind::Assign, b"", &[Item::Kid(Class::Expression)]),
+            _ => Growth::Give,
+        },
+        _ => term_growth(class, next),
+    }
+}
+
+fn term_growth(class: Class, next: Option<Lexeme>) -> Growth
+    ensures { grow_view result ≡ grow_term class next }
+{
+    if takes_product(class) && multiplies(next) {
+        Growth::Shift(Kind::Mul, next_spelling(next), &[Item::Kid(Class::Factor)])
+    } else {
+        simple_growth(class, next)
+    }
+}
+
+fn simple_growth(class: Class, next: Option<Lexeme>) -> Growth
+    ensures { grow_view result ≡ grow_simple class next }
+{
+    if takes_sum(class) && adds(next) {
+        Growth::Shift(Kind::Add, next_spelling(next), &[Item::Kid(Class::Term)])
+    } else if takes_relation(class) && relates(next) {
+        Growth::Shift(Kind::Rel, next_spelling(next), &[Item::Kid(Class::Simple)])
+    } else {
+        relation_growth(class, next)
+    }
+}
+
+fn relation_growth(class: Class, next: Option<Lexeme>) -> Growth
+    ensures { grow_view result ≡ grow_relation class next }
+{
+    if takes_width(class) && is_colon(next) {
+        Growth::Shift(Kind::Width, b"", &[Item::Kid(Class::Expression)])
+    } else {
+        Growth::Give
+    }
+}
+
+fn takes_width(class: Class) -> bool
+    ensures { result ≡ takes_width class }
+{
+    matches!(class, Class::Argument)
+}
+
+fn takes_relation(class: Class) -> bool
+    ensures { result ≡ takes_relation class }
+{
+    matches!(class, Class::Expression | Class::Argument)
+}
+
+fn takes_sum(class: Class) -> bool
+    ensures { result ≡ takes_sum class }
+{
+    matches!(class, Class::Simple | Class::Expression | Class::Argument)
+}
+
+fn takes_product(class: Class) -> bool
+    ensures { result ≡ takes_product class }
+{
+    matches!(
+        class,
+        Class::Term | Class::Simple | Class::Expression | Class::Argument
+    )
+}
+
+fn multiplies(next: Option<Lexeme>) -> bool
+    ensures { result ≡ multiplies next }
+{
+    match next {
+        Some(Lexeme::Star) => true,
+        Some(Lexeme::KeyDiv) => true,
+        Some(Lexeme::KeyMod) => true,
+        Some(Lexeme::KeyAnd) => true,
+        _ => false,
+    }
+}
+
+fn adds(next: Option<Lexeme>) -> bool
+    ensures { result ≡ adds next }
+{
+    match next {
+        Some(Lexeme::Plus) => true,
+        Some(Lexeme::Minus) => true,
+        Some(Lexeme::KeyOr) => true,
+        _ => false,
+    }
+}
+
+fn relates(next: Option<Lexeme>) -> bool
+    ensures { result ≡ relates next }
+{
+    match next {
+        Some(Lexeme::Equal) => true,
+        Some(Lexeme::Unequal) => true,
+        Some(Lexeme::Less) => true,
+        Some(Lexeme::Greater) => true,
+        Some(Lexeme::AtMost) => true,
+        Some(Lexeme::AtLeast) => true,
+        Some(Lexeme::KeyIn) => true,
+        _ => false,
+    }
+}
+
+fn is_colon(next: Option<Lexeme>) -> bool
+    ensures { result ≡ is_colon next }
+{
+    match next {
+        Some(Lexeme::Colon) => true,
+        _ => false,
+    }
+}

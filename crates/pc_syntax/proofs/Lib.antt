@@ -1,0 +1,3 @@
+pub mod CountedSoFar
+pub mod Numerals
+pub mod Opening

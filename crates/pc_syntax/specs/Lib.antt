@@ -1,0 +1,17 @@
+pub mod Classes
+pub mod Falls
+pub mod Fits
+pub mod FitsLayout
+pub mod Layout
+pub mod Make
+pub mod Numbers
+pub mod Parts
+pub mod Plain
+pub mod Slots
+pub mod Sorts
+pub mod Sound
+pub mod Spellings
+pub mod Symbols
+pub mod View
+pub mod WellFormed
+pub mod Words

@@ -1,0 +1,79 @@
+-- A number for each kind, by which the code compares two.
+use Rattle.std.specs.Prelude.{ℕ}
+use Rattle.pc_syntax.specs.declared.kind.Kind.{Kind}
+use Rattle.pc_syntax.specs.declared.kind.Kind.TheVariants.{Program, Block, Forward, Constdef, Typedef, Vardef, Field, Valparam, Varparam, Procedure, Function, Funbody, Tname, Enum, Subrange, Array, Record, Record0, Setof, Packed, Pointer, Cnumber, Cstring, Cname, Csign, Empty, Assign, Proc, Compound, If, Ifelse, Case, Arm, Repeat, While, For, With, Ref, Index, Select, Deref, Number, Text, Nil, Call, Parens, Not, Setcon, Mul, Add, Sign, Rel, Width, Span, Name, Heads, Args, Params, Names, Labels, Indexes, Exprs, Accesses, Members, Consts, Types, Vars, Routines, Fields, Stmts, Arms, Hole}
+
+-- the place of a kind in the table; all holes share one
+abbrev pub number_of : Kind → ℕ
+number_of Program = 0
+number_of Block = 1
+number_of Forward = 2
+number_of Constdef = 3
+number_of Typedef = 4
+number_of Vardef = 5
+number_of Field = 6
+number_of Valparam = 7
+number_of Varparam = 8
+number_of Procedure = 9
+number_of Function = 10
+number_of Funbody = 11
+number_of Tname = 12
+number_of Enum = 13
+number_of Subrange = 14
+number_of Array = 15
+number_of Record = 16
+number_of Record0 = 17
+number_of Setof = 18
+number_of Packed = 19
+number_of Pointer = 20
+number_of Cnumber = 21
+number_of Cstring = 22
+number_of Cname = 23
+number_of Csign = 24
+number_of Empty = 25
+number_of Assign = 26
+number_of Proc = 27
+number_of Compound = 28
+number_of If = 29
+number_of Ifelse = 30
+number_of Case = 31
+number_of Arm = 32
+number_of Repeat = 33
+number_of While = 34
+number_of For = 35
+number_of With = 36
+number_of Ref = 37
+number_of Index = 38
+number_of Select = 39
+number_of Deref = 40
+number_of Number = 41
+number_of Text = 42
+number_of Nil = 43
+number_of Call = 44
+number_of Parens = 45
+number_of Not = 46
+number_of Setcon = 47
+number_of Mul = 48
+number_of Add = 49
+number_of Sign = 50
+number_of Rel = 51
+number_of Width = 52
+number_of Span = 53
+number_of Name = 54
+number_of Heads = 55
+number_of Args = 56
+number_of Params = 57
+number_of Names = 58
+number_of Labels = 59
+number_of Indexes = 60
+number_of Exprs = 61
+number_of Accesses = 62
+number_of Members = 63
+number_of Consts = 64
+number_of Types = 65
+number_of Vars = 66
+number_of Routines = 67
+number_of Fields = 68
+number_of Stmts = 69
+number_of Arms = 70
+number_of (Hole s) = 71
