@@ -1,2 +1,4 @@
+pub mod LoadSteps
 pub mod RunSteps
+pub mod SessionSteps
 pub mod WordSteps

@@ -1,8 +1,13 @@
 -- What a command does to a session.
-use Rattle.std.specs.Prelude.{◌≡◌, ◌≤◌, ℕ, List, [], ◌∷◌, ◌++◌, ◌⊎◌, length, Option, codes}
+use Rattle.std.specs.Prelude.{◌≡◌, ◌≤◌, ℕ, List, [], ◌∷◌, ◌⊎◌, length, Option, Some, None, codes}
 use Rattle.std.proofs.Common.{inl, inr, refl}
 use Rattle.pc_world.specs.Files.{Files}
 use Rattle.pc_script.specs.Script.{line_limit}
+use Rattle.pc_syntax.specs.declared.kind.Kind.TheVariants.{Hole}
+use Rattle.pc_syntax.specs.declared.sort.Sort.TheVariants as sort
+use Rattle.pc_syntax.specs.Plain.{node}
+use Rattle.pc_pretty.specs.Printed.{printed}
+use Rattle.pecan.specs.Loading.{Loads, not_built}
 use Rattle.pecan.specs.PlainSession.{PlainSession}
 use Rattle.pecan.specs.Words.{words_of}
 use Rattle.pc_script.specs.declared.given.Given.{Given}
@@ -16,9 +21,9 @@ pub record State : Type 0 where
 abbrev pub state_of : PlainSession → Option Files → State
 state_of session files = record { session = session; files = files }
 
--- The session at the start.
+-- The session at the start: its program is still to be written.
 abbrev pub opening : PlainSession
-opening = record { printed = codes "?program" }
+opening = record { tree = node (Hole sort.Program) [] [] [] }
 
 -- The line asks for the program's text: its two words are `show` and `syntax`, and it isn't too long.
 abbrev pub ShowsSyntax : List ℕ → Type 0
@@ -26,20 +31,17 @@ ShowsSyntax line = (length line ≤ line_limit) × (words_of line ≡ codes "sho
 
 -- The program's text, as it is shown.
 abbrev pub shown : PlainSession → List ℕ
-shown session = session.printed ++ 10 ∷ []
-
--- The reply to what the program doesn't do yet.
-abbrev pub not_built : List ℕ
-not_built = codes "refused: not built yet\n"
+shown session = printed session.tree
 
 -- The reply to a command for which there is no memory.
 abbrev pub no_memory : List ℕ
 no_memory = codes "refused: no memory\n"
 
--- The reply to a command that finds memory, and the state that it leaves.
+-- The reply to a command that finds memory, and the state that it leaves. Only lines `load <<WORD` take a text, which is loaded.
 pub record Obeys (s : State) (given : Given) (piece : List ℕ) (t : State) : Type 0 where
-  pub shows : ShowsSyntax given.line → (piece ≡ shown s.session) × (t ≡ s)
-  pub refuses : ¬ ShowsSyntax given.line → (piece ≡ not_built) × (t ≡ s)
+  pub loads : (text : List ℕ) → given.here ≡ Some text → Loads text s.session.tree piece t.session.tree × (t.files ≡ s.files)
+  pub shows : given.here ≡ None → ShowsSyntax given.line → (piece ≡ shown s.session) × (t ≡ s)
+  pub refuses : given.here ≡ None → ¬ ShowsSyntax given.line → (piece ≡ not_built) × (t ≡ s)
 
 -- What may be answered to a command: its reply, or that there is no memory, and then it counts as not given.
 unfoldable pub Answers : State → Given → List ℕ → State → Type 0

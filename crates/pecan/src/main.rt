@@ -2,11 +2,16 @@
 //!
 //! Start at `pecan` in `run.rt`. What it writes is a transcript of the script
 //! (`specs/Transcript.antt`): for each command one piece, which `specs/Session.antt` allows as its
-//! answer. `obey` in `session.rt` does one command.
+//! answer. `obey` in `session.rt` does one command, and `program_of` in `load.rt` reads a program.
 #![tactic(auto)]
 
 ghost use Rattle.std.specs.Prelude.{◌≡◌, ◌<◌};
 
+mod laws;
+mod load;
+#[cfg(test)]
+mod load_tests;
+mod refusal;
 mod run;
 mod session;
 mod status;

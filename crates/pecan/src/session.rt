@@ -1,28 +1,34 @@
 //! A session, and what one command does to it.
 
 ghost use Rattle.std.specs.Prelude.{◌≡◌, ◌++◌, ◌∷◌, [], ◌↔◌, IsTrue, IfOk, OnErr};
-ghost use Rattle.pecan.specs.Session.{opening, Obeys, Answers, ShowsSyntax, no_memory, shown, state_of};
+ghost use Rattle.pecan.specs.Loading.{Loads, not_built, misfit};
+ghost use Rattle.pecan.specs.Session.{opening, Answers, ShowsSyntax, shown, state_of};
 
+use crate::load::program_of;
+use crate::refusal::LoadRefusal;
 use crate::words::{after_word, next_word};
+use pc_pretty::print;
 use pc_script::{Given, LINE_LEN};
-use pc_syntax::{Steps, Word};
+use pc_syntax::{Sort, Steps, Tree, hole};
 use pc_world::Shelf;
 use std::alloc::{AllocError, Global};
 use std::marker::Model;
 use std::sync::ledger::Ledger;
 
-/// A session: so far the program's text, without its last line feed.
+/// A session: so far the program as a tree.
 #[derive(Drop)]
 pub struct Session {
-    printed: Word,
+    tree: Tree,
 }
 
 impl Model for Session {
-    ghost use Rattle.pecan.specs.PlainSession.{PlainSession};
+    ghost use Rattle.pecan.specs.PlainSession.{PlainSession, session_code};
 
     ghost Value = { PlainSession };
 
-    ghost view = { λ s. record { printed = s.printed } };
+    ghost coded = { session_code };
+
+    ghost view = { λ s. record { tree = s.tree } };
 }
 
 impl Session {
@@ -31,17 +37,37 @@ impl Session {
         ensures { IfOk result (λ session. session ≡ opening) }
     {
         Ok(Session {
-            printed: Word::new(alloc, b"?program")?,
+            tree: hole(alloc, Sort::Program)?,
         })
     }
 
-    // The program, and a line feed.
+    // The program's text.
     fn show(&self, alloc: Global) -> Result<Vec<u8>, AllocError>
         ensures { IfOk result (λ text. text.items ≡ shown self.now) }
     {
-        let mut text = self.printed.bytes().to_vec(alloc)?;
-        text.push(b'\n')?;
-        Ok(text)
+        print(alloc, &self.tree)
+    }
+
+    // Makes the program that the text writes the session's, where it writes one, and answers the reply.
+    fn load<L: Ledger>(
+        &mut self,
+        alloc: Global,
+        text: &[u8],
+        work: &mut Steps<L>,
+    ) -> Result<Vec<u8>, AllocError>
+        ensures ok { IfOk result (λ piece. Loads text.now self.old.tree piece.items self.new.tree) }
+        ensures err { OnErr result (self.new ≡ self.old) }
+    {
+        match program_of(alloc, text, work) {
+            Ok(tree) => {
+                let reply = b"ok 0\n".to_vec(alloc)?;
+                self.tree = tree;
+                Ok(reply)
+            }
+            Err(LoadRefusal::NotBuilt) => not_built(alloc),
+            Err(LoadRefusal::NotFit(number)) => misfit(alloc, number),
+            Err(LoadRefusal::NoMemory) => Err(AllocError),
+        }
     }
 }
 
@@ -59,12 +85,31 @@ pub fn obey<H: Shelf, L: Ledger>(
 {
     work.tick();
     let _ = &shelf;
+    if let Some(text) = &given.here {
+        let reply = session.load(alloc, text.bytes(), work)?;
+        return Ok(reply);
+    }
     if shows_syntax(given.line.bytes()) {
         let text = session.show(alloc)?;
         return Ok(text);
     }
-    let text = b"refused: not built yet\n".to_vec(alloc)?;
+    let text = not_built(alloc)?;
     Ok(text)
+}
+
+// The reply to what the program doesn't do yet.
+fn not_built(alloc: Global) -> Result<Vec<u8>, AllocError>
+    ensures { IfOk result (λ text. text.items ≡ not_built) }
+{
+    b"refused: not built yet\n".to_vec(alloc)
+}
+
+// The reply to a text that is no program.
+fn misfit(alloc: Global, number: u64) -> Result<Vec<u8>, AllocError>
+    ensures { IfOk result (λ text. text.items ≡ misfit number) }
+{
+    let text = format!(in alloc; "refused: does not fit at symbol {number}\n")?;
+    Ok(text.into_bytes())
 }
 
 // Whether the line asks for the program's text.

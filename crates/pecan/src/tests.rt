@@ -13,11 +13,13 @@ const SHOWN: &[u8] = b"?program\n";
 
 const NOT_BUILT: &[u8] = b"refused: not built yet\n";
 
+const TWICE_NOT_BUILT: &[u8] = b"refused: not built yet\nrefused: not built yet\n";
+
 const NONE: &[u64] = &[];
 
 // A run over a script, where these calls of the source and of the sink fail.
 #[derive(Drop)]
-struct Case {
+pub struct Case {
     script: &'static [u8],
     read_fails: &'static [u64],
     write_fails: &'static [u64],
@@ -27,7 +29,7 @@ struct Case {
 }
 
 // A run without failures.
-fn sound(script: &'static [u8], written: &'static [u8]) -> Case {
+pub fn sound(script: &'static [u8], written: &'static [u8]) -> Case {
     Case {
         script,
         read_fails: NONE,
@@ -62,7 +64,7 @@ fn unwritten(write_fails: &'static [u64], room: usize, written: &'static [u8]) -
     }
 }
 
-fn outcome<L: Ledger>(
+pub fn outcome<L: Ledger>(
     alloc: Global,
     case: &Case,
     script: Vec<u8>,
@@ -95,16 +97,15 @@ fn a_script_gets_these_replies_and_this_status(rt: HostRuntime) -> Result<(), Fa
         sound(b"showsyntax", NOT_BUILT),
         sound(b"show syntax x", NOT_BUILT),
         sound(b"show", NOT_BUILT),
+        sound(b"\0\nshow\0syntax\n", TWICE_NOT_BUILT),
         sound(
-            b"\0\nshow\0syntax\n",
-            b"refused: not built yet\nrefused: not built yet\n",
-        ),
-        sound(
-            b"load <<E\nshow syntax\nE\nshow syntax\n",
+            b"load <<E\nif\nE\nshow syntax\n",
             b"refused: not built yet\n?program\n",
         ),
-        sound(b"load <<E\nshow syntax\nE", NOT_BUILT),
-        sound(b"load <<E\nshow syntax\n", NOT_BUILT),
+        sound(b"  load <<End\nprogram a; forward.\nEnd", b"ok 0\n"),
+        sound(b"load <<E\nprogram a; forward.\n", NOT_BUILT),
+        sound(b"load <<E1\nload program a; forward.\n", TWICE_NOT_BUILT),
+        sound(b"load <<E \nload  <<E\n", TWICE_NOT_BUILT),
         unread(b"show syntax\n", &[1], b""),
         unread(b"show syntax\nshow syntax\n", &[2], b"?program\n?program\n"),
         unread(b"show syntax\nshow syntax", &[2], SHOWN),

@@ -1,0 +1,14 @@
+pub mod Apart
+pub mod Arranged
+pub mod Back
+pub mod Clean
+pub mod Forward
+pub mod FrontOf
+pub mod ItemLaws
+pub mod Laid
+pub mod PieceSymbols
+pub mod PrintedSpells
+pub mod ReadsBack
+pub mod Spelling
+pub mod Tidy
+pub mod Walks

@@ -1,0 +1,5 @@
+pub mod Items
+pub mod Laws
+pub mod Printed
+pub mod RoundTrip
+pub mod Spacing
