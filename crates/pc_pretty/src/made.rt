@@ -33,7 +33,7 @@ pub fn around(
 {
     match operator(operators, word) {
         Some(operator) => {
-            let mut items = before.to_vec(alloc)?;
+            let mut items = with_room(alloc, before, 1, behind)?;
             items.push(Item::Literal(operator))?;
             items.extend_from_slice(behind)?;
             Ok(Items::Made(items))
@@ -52,7 +52,7 @@ pub fn last_semicolon(
     requires { IsSome (lay.last_semicolon word.now before.now behind.now) }
     ensures { IfOk result (λ items. lay.last_semicolon word.now before.now behind.now ≡ Some (items_of items)) }
 {
-    let mut items = before.to_vec(alloc)?;
+    let mut items = with_room(alloc, before, 1, behind)?;
     match word {
         [] => {}
         _ => items.push(Item::Literal(Lexeme::Semicolon))?,
@@ -75,13 +75,31 @@ pub fn elements(
     if count == 0 {
         return Ok(Items::Fixed(&[]));
     }
-    let mut items = opening.to_vec(alloc)?;
+    let mut items = with_room(alloc, opening, count.saturating_mul(2), close)?;
     items.push(Item::Kid(class))?;
     for _i in 1..count {
         push_element(&mut items, separator, class)?;
     }
     items.extend_from_slice(close)?;
     Ok(Items::Made(items))
+}
+
+/// These items, with room for more and for those behind them.
+fn with_room(
+    alloc: Global,
+    items: &'static [Item],
+    more: usize,
+    behind: &'static [Item],
+) -> Result<Vec<Item>, AllocError>
+    ensures { IfOk result (λ made. made.items ≡ items.now) }
+{
+    let room = items
+        .len()
+        .saturating_add(more)
+        .saturating_add(behind.len());
+    let mut made = Vec::with_capacity(alloc, room)?;
+    made.extend_from_slice(items)?;
+    Ok(made)
 }
 
 /// Adds a further element, behind its separator.

@@ -1,6 +1,5 @@
 -- Of the three answers to a text at most one is possible.
 use Rattle.std.specs.Prelude.{◌≡◌, ℕ, List}
-use Rattle.std.proofs.Common.{sym}
 use Rattle.std.proofs.Common.{inl, inr}
 use Rattle.pc_syntax.specs.Plain.{Plain}
 use Rattle.pc_lex.specs.Spells.{PlainSymbol}
