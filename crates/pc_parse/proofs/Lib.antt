@@ -6,6 +6,7 @@ pub mod Expressions
 pub mod Follows
 pub mod Fronts
 pub mod Items
+pub mod LeafLaws
 pub mod Leading
 pub mod Loop
 pub mod Nodes

@@ -9,6 +9,7 @@ mod beginnings;
 mod error;
 mod growths;
 mod laws;
+mod leaves;
 mod lexemes;
 mod machine;
 mod reading;

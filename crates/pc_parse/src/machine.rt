@@ -8,6 +8,7 @@ ghost use Rattle.pc_parse.specs.Rows.{made, added, no_kids};
 
 use crate::beginnings::{Beginning, kid_beginning};
 use crate::growths::{Growth, node_growth};
+use crate::leaves::Leaves;
 use crate::lexemes::comes_next;
 use crate::rows::{Cut, Node, Row};
 use crate::turns::{next_element, turn};
@@ -46,6 +47,7 @@ pub fn step<'a>(
     below: &mut Vec<Frame<'a>>,
     next: Option<Lexeme>,
     word: &'a [u8],
+    leaves: &mut Leaves,
 ) -> Result<Outcome<'a>, AllocError>
     requires { IsBuildable position }
     ensures { IfOk result (λ o. outcome_view o (stack below.new.items)
@@ -57,7 +59,7 @@ pub fn step<'a>(
             Ok(begin(alloc, kid_beginning(root, next), word))
         }
         Position::Within(frame) => step_within(alloc, frame, below, next, word),
-        Position::Ended(node) => step_ended(alloc, root, node, below, next),
+        Position::Ended(node) => step_ended(alloc, root, node, below, next, leaves),
     }
 }
 
@@ -232,6 +234,7 @@ fn step_ended<'a>(
     node: Node<'a>,
     below: &mut Vec<Frame<'a>>,
     next: Option<Lexeme>,
+    leaves: &mut Leaves,
 ) -> Result<Outcome<'a>, AllocError>
     requires { IsBuildable (Position.Ended node) }
     ensures { IfOk result (λ o. outcome_view o (stack below.new.items)
@@ -241,7 +244,7 @@ fn step_ended<'a>(
         return Ok(Outcome::Refused);
     };
     let kind = node.kind;
-    let cut = node.cut(alloc)?;
+    let cut = node.cut(alloc, leaves)?;
     match node_growth(kind, class, next) {
         Growth::Give => {
             if class.has(kind) {

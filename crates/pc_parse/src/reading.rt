@@ -11,6 +11,7 @@ ghost use Rattle.pc_parse.specs.Ends.{Ends, Tells};
 ghost use Rattle.pc_parse.specs.Rows as rows;
 
 use crate::error::ParseError;
+use crate::leaves::Leaves;
 use crate::machine::{Frame, Outcome, Position, step};
 use crate::rows::Cut;
 use pc_lex::{Lexed, Span, Symbol, SymbolKind};
@@ -105,6 +106,24 @@ fn run<L: Ledger>(
     ensures ends { Ends (class_of sort) (plain_symbols symbols.now) result }
     ensures work { work.new ≤ work.old + length symbols.now }
 {
+    let Ok(mut leaves) = Leaves::new(alloc) else {
+        return Err(ParseError::NoMemory);
+    };
+    turn_by_turn(alloc, sort, symbols, &mut leaves, work)
+}
+
+/// Runs the machine to its end, with leaves that may be shared.
+fn turn_by_turn<L: Ledger>(
+    alloc: Global,
+    sort: Sort,
+    symbols: &[Symbol],
+    leaves: &mut Leaves,
+    work: &mut Steps<L>,
+) -> Result<Cut, ParseError>
+    requires { Proper (syms (plain_symbols symbols.now)) }
+    ensures ends { Ends (class_of sort) (plain_symbols symbols.now) result }
+    ensures work { work.new ≤ work.old + length symbols.now }
+{
     let root = class_of(sort);
     let mut below: Vec<Frame> = Vec::new(alloc);
     let mut position = Position::Opening;
@@ -113,7 +132,7 @@ fn run<L: Ledger>(
         let rest = rest_of(symbols, at);
         let next = next_lexeme(rest);
         let word = next_word(rest);
-        let Ok(outcome) = step(alloc, root, position, &mut below, next, word) else {
+        let Ok(outcome) = step(alloc, root, position, &mut below, next, word, leaves) else {
             return Err(ParseError::NoMemory);
         };
         match outcome {

@@ -8,6 +8,7 @@ ghost use Rattle.pc_syntax.specs.WellFormed.{size_limit, IsProper};
 ghost use Rattle.pc_parse.specs.Rows.{is_within, no_kids, made, added, joined};
 ghost use Rattle.pc_parse.specs.Views.{row_view, trees_view};
 
+use crate::leaves::Leaves;
 use pc_syntax::{Kind, Tree};
 use std::alloc::{AllocError, Global};
 
@@ -108,14 +109,14 @@ impl<'a> Node<'a> {
     }
 
     /// The node as it is kept.
-    pub fn cut(self, alloc: Global) -> Result<Cut, AllocError>
+    pub fn cut(self, alloc: Global, leaves: &mut Leaves) -> Result<Cut, AllocError>
         requires { IfSome (trees_view self.kids.trees) (λ trees. IsProper (node self.kind self.word.now [] trees)) }
         ensures { IfOk result (λ cut. cut ≡ made self.entry.kind self.entry.word.now (row_view self.entry.kids)) }
     {
         let Node { kind, word, kids } = self;
         let Row { depth, size, trees } = kids;
         let tree = match trees {
-            Some(trees) => Some(Tree::of_proper(alloc, kind, word, trees)?),
+            Some(trees) => Some(tree_of(alloc, leaves, kind, word, trees)?),
             None => None,
         };
         Ok(Cut {
@@ -124,4 +125,23 @@ impl<'a> Node<'a> {
             tree,
         })
     }
+}
+
+/// The node of these kids. A leaf may be one that was made before.
+fn tree_of(
+    alloc: Global,
+    leaves: &mut Leaves,
+    kind: Kind,
+    word: &[u8],
+    kids: Vec<Tree>,
+) -> Result<Tree, AllocError>
+    requires { IsProper (node kind word.now [] kids.items) }
+    ensures { IfOk result (λ tree. tree ≡ node kind word.now [] kids.items) }
+{
+    if kids.is_empty() {
+        let leaf = leaves.leaf(alloc, kind, word)?;
+        return Ok(leaf);
+    }
+    let tree = Tree::of_proper(alloc, kind, word, kids)?;
+    Ok(tree)
 }

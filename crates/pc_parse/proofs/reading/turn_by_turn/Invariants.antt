@@ -3,7 +3,7 @@ use Rattle.pc_lex.specs.Views.{plain_symbols, syms}
 use Rattle.pc_parse.specs.Reading.{class_of}
 use Rattle.pc_parse.specs.Views.{stack, state_view}
 use Rattle.pc_parse.proofs.Reached.{Reached, energy_kept}
-use Rattle.pc_parse.proofs.reading.run.Given as goal
+use Rattle.pc_parse.proofs.reading.turn_by_turn.Given as goal
 
 -- what the loop has is what is kept of a state that the machine reaches, before the symbols that are left
 abbrev pub invariant-reading : goal.invariant-reading

@@ -2,7 +2,7 @@ use Rattle.std.proofs.Common.{◌-◌, length, ap, arith}
 use Rattle.pc_parse.specs.Reading.{class_of}
 use Rattle.pc_parse.specs.Views.{stack, state_view, outcome_view}
 use Rattle.pc_parse.proofs.Loop.{turn, moved, moved_less, took_one, took, took_less, buildable, found, missed}
-use Rattle.pc_parse.proofs.reading.run.Goals as goal
+use Rattle.pc_parse.proofs.reading.turn_by_turn.Goals as goal
 
 pub step-requires : goal.step-requires
 step-requires g c = buildable _ _ c.reading.position _ _ c.requires c.reading.invariant.reached
