@@ -1,3 +1,9 @@
+pub mod Blanks
+pub mod Changed
 pub mod CountedSoFar
+pub mod Fewer
 pub mod Numerals
 pub mod Opening
+pub mod Outlines
+pub mod PathSteps
+pub mod TemplateTests

@@ -52,11 +52,11 @@ places-around (Word y ∷ is) x behind = places-around is x behind
 places-around (Kid c ∷ is) x behind = ap (λ cs. c ∷ cs) (places-around is x behind)
 
 -- kids from a place on, by a list of classes
-abbrev walk : List Class → ℕ → List Kind → Bool
+abbrev pub walk : List Class → ℕ → List Kind → Bool
 walk cs i [] = true
 walk cs i (j ∷ js) = takes (slice_get cs i) j && walk cs (suc i) js
 
-walk-suc : (c : Class) (cs : List Class) (i : ℕ) (js : List Kind) → walk (c ∷ cs) (suc i) js ≡ walk cs i js
+pub walk-suc : (c : Class) (cs : List Class) (i : ℕ) (js : List Kind) → walk (c ∷ cs) (suc i) js ≡ walk cs i js
 walk-suc c cs i [] = refl
 walk-suc c cs i (j ∷ js) = ap (λ b. takes (slice_get cs i) j && b) (walk-suc c cs (suc i) js)
 
@@ -83,7 +83,7 @@ fits_places-walk (c ∷ cs) (j ∷ js) =
     rw (fits_places-walk cs js, walk-suc c cs 0 js, eqb-suc (length js) (length cs)) (swap_and (has c j) (length js == length cs) (walk cs 0 js))
 
 module _ (k : Kind) (single : is_list k ≡ false) where
-  takes_from-walk : (i : ℕ) (js : List Kind) → takes_from k i js ≡ walk (places_of k) i js
+  pub takes_from-walk : (i : ℕ) (js : List Kind) → takes_from k i js ≡ walk (places_of k) i js
   takes_from-walk i [] = refl
   takes_from-walk i (j ∷ js) =
       let e : class_from k i ≡ slice_get (places_of k) i = rw single in

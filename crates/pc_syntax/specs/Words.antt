@@ -1,5 +1,5 @@
 -- What a name, a numeral, a text and a comment are (ISO 7185, 6.1), as words.
-use Rattle.std.specs.Prelude.{◌≡◌, ℕ, ◌+◌, ◌-◌, ◌*◌, ◌^◌, Bool, false, not, ◌&&◌, ◌||◌, ◌==◌, if◌then◌else◌, nat_le, List, [], ◌∷◌, map, codes}
+use Rattle.std.specs.Prelude.{◌≡◌, ℕ, ◌+◌, ◌-◌, ◌*◌, ◌^◌, Bool, false, not, ◌&&◌, ◌||◌, ◌==◌, if◌then◌else◌, nat_le, List, [], ◌∷◌, Option, Some, None, map, codes}
 use Rattle.std.proofs.Common.{refl}
 use Rattle.std.specs.List.{list_all}
 use Rattle.std.specs.Str.{bytes_eq}
@@ -56,6 +56,10 @@ numeral_limit = 2 ^ 128 - 1
 pub numeral_limit-is : numeral_limit ≡ 2 ^ 128 - 1
 unfolding numeral_limit
 numeral_limit-is = refl
+
+-- the number that digits stand for, where it is not over the limit
+abbrev pub numeral_value : List ℕ → Option ℕ
+numeral_value bs = if nat_le (value_after 0 bs) numeral_limit then Some (value_after 0 bs) else None
 
 abbrev pub is_digits : List ℕ → Bool
 is_digits [] = false

@@ -82,21 +82,16 @@ pub fn is_spelled(word: &[u8], small: &[u8]) -> bool
     rest.is_empty() && wanted.is_empty()
 }
 
-/// Whether the digits stand for a number not over 2^128 - 1.
-pub fn is_within_limit(digits: &[u8]) -> bool
-    ensures { result ≡ nat_le (words.value_after 0 digits.now) words.numeral_limit }
+/// The number that the digits stand for, or none where it is over 2^128 - 1.
+pub fn value_of(digits: &[u8]) -> Option<u128>
+    ensures { result ≡ words.numeral_value digits.now }
 {
     let mut value: u128 = 0;
     let mut rest = digits;
     while let [digit, tail @ ..] = rest {
-        let Some(tens) = value.checked_mul(10) else {
-            return false;
-        };
-        let Some(sum) = tens.checked_add(u128::from(digit.saturating_sub(48))) else {
-            return false;
-        };
-        value = sum;
+        let tens = value.checked_mul(10)?;
+        value = tens.checked_add(u128::from(digit.saturating_sub(48)))?;
         rest = tail;
     }
-    true
+    Some(value)
 }

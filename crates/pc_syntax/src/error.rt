@@ -1,5 +1,9 @@
-//! Why a tree was not made or changed.
+//! Why a tree was not made or changed, and why a word was not read.
 
+ghost use Rattle.std.specs.Prelude.{◌≡◌};
+ghost use Rattle.pc_syntax.specs.declared.error.ReadError.TheVariants as read_error;
+
+use std::alloc::{AllocError, AllocFailed};
 use thiserror::Error;
 
 /// The first of these that applies, in this order.
@@ -19,4 +23,30 @@ pub enum EditError {
     TooLarge(u64),
     #[error("no memory")]
     NoMemory,
+}
+
+/// Why a word was not read as a path or a key.
+#[derive(Clone, Copy, Debug, PartialEq, Eq, Error)]
+pub enum ReadError {
+    /// The word hasn't the form.
+    #[error("bad form")]
+    BadForm,
+    #[error("no memory")]
+    NoMemory,
+}
+
+impl From<AllocError> for ReadError {
+    ghost from_gives = { λ _ e. e ≡ read_error.NoMemory };
+
+    fn from(_error: AllocError) -> ReadError {
+        ReadError::NoMemory
+    }
+}
+
+impl<T: Drop> From<AllocFailed<T>> for ReadError {
+    ghost from_gives = { λ _ e. e ≡ read_error.NoMemory };
+
+    fn from(_error: AllocFailed<T>) -> ReadError {
+        ReadError::NoMemory
+    }
 }

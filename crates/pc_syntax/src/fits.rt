@@ -80,7 +80,8 @@ fn is_last_semicolon(word: &[u8]) -> bool
     }
 }
 
-fn is_written(word: &[u8], spelling: &[u8]) -> bool
+/// Whether the word is this one.
+pub fn is_written(word: &[u8], spelling: &[u8]) -> bool
     ensures { result ≡ bytes_eq spelling.now word.now }
 {
     spelling == word
@@ -110,7 +111,8 @@ pub fn takes_kids(kind: Kind, kids: &[Tree]) -> bool
     true
 }
 
-fn takes(class: Option<Class>, kind: Kind) -> bool
+/// Whether a kid of this kind may stand at a place of this class; no kid where there is no place.
+pub fn takes(class: Option<Class>, kind: Kind) -> bool
     ensures { result ≡ takes class kind }
 {
     match class {

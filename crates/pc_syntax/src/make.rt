@@ -47,19 +47,19 @@ pub fn counts_of(kind: Kind, kids: &[Tree]) -> Counts
     }
 }
 
-/// Whether a node of this kind with these kids ends open.
-pub fn is_open(kind: Kind, kids: &[Tree]) -> bool
-    ensures { result ≡ opens kind (last_open (forest_of kids.now)) }
+/// Whether a node of this kind ends open, from whether its last kid does.
+pub fn opens(kind: Kind, last: bool) -> bool
+    ensures { result ≡ opens kind last }
 {
     match kind {
         Kind::If => true,
-        Kind::Ifelse | Kind::While | Kind::For | Kind::With => is_last_open(kids),
+        Kind::Ifelse | Kind::While | Kind::For | Kind::With => last,
         _ => false,
     }
 }
 
 /// Whether the last of these trees ends open.
-fn is_last_open(trees: &[Tree]) -> bool
+pub fn is_last_open(trees: &[Tree]) -> bool
     ensures { result ≡ last_open (forest_of trees.now) }
 {
     match trees.last() {
@@ -77,7 +77,7 @@ fn size_limit() -> u64
 
 impl Counts {
     /// What keeps a well-formed tree with these counts from being made, if anything does.
-    fn admit(&self) -> Result<(), EditError>
+    pub fn admit(&self) -> Result<(), EditError>
         ensures { (p : Plain) → IsWellFormed p → self.now.depth ≡ depth_of p → self.now.size ≡ min (size_of p) (2 ^ 64 - 1) → Admits p result }
     {
         if self.depth > 256 {

@@ -66,7 +66,7 @@ fn refusal(
 }
 
 /// This kid so many times, below a node of this kind.
-fn many(alloc: Global, kind: Kind, kid: &Tree, count: u32) -> Result<Tree, EditError> {
+pub fn many(alloc: Global, kind: Kind, kid: &Tree, count: u32) -> Result<Tree, EditError> {
     let mut kids = Vec::new(alloc);
     for _i in 0..count {
         let Ok(copy) = kid.copy() else {

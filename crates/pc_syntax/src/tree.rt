@@ -7,7 +7,7 @@ ghost use Rattle.pc_syntax.specs.WellFormed.{size_of, depth_of, holes_of, IsProp
 ghost use Rattle.pc_syntax.specs.Parts.{is_open, kid_at};
 
 use crate::kind::Kind;
-use crate::make::{Counts, counts_of, is_open};
+use crate::make::{Counts, counts_of, is_last_open, opens};
 use crate::note::Note;
 use crate::text::Text;
 use std::alloc::{AllocError, Global};
@@ -104,10 +104,12 @@ impl Tree {
 
     /// The kid with a number, from 1.
     pub fn kid(&self, number: u32) -> Option<&Tree>
-        ensures { option_copied result ≡ kid_at self.now number }
+        ensures value { option_copied result ≡ kid_at self.now number }
+        ensures proper { IsProper self.now }
     {
+        let kids = self.kid_slice();
         let i = number.checked_sub(1)?;
-        self.kid_slice().get(i as usize)
+        kids.get(i as usize)
     }
 
     /// How many nodes it has.
@@ -151,6 +153,18 @@ impl Tree {
         })
     }
 
+    /// Its word and notes, shared.
+    #[tactic(auto, using(crate::specs::Parts::opened))]
+    pub(crate) fn text(&self) -> Result<Option<Rc<Text>>, AllocError>
+        ensures word { IfOk result (λ text. option_map_or (λ t. t.value.word) text [] ≡ self.now.word) }
+        ensures notes { IfOk result (λ text. option_map_or (λ t. t.value.notes.items) text [] ≡ self.now.notes) }
+    {
+        match &self.node.text {
+            Some(text) => Ok(Some(text.clone()?)),
+            None => Ok(None),
+        }
+    }
+
     /// A node that is known to be well formed and within the limits.
     pub(crate) fn of_text(
         alloc: Global,
@@ -162,7 +176,7 @@ impl Tree {
         ensures { IfOk result (λ tree. tree ≡ node kind (option_map_or (λ t. t.value.word) text []) (option_map_or (λ t. t.value.notes.items) text []) kids.items) }
     {
         let Counts { size, depth, holes } = counts_of(kind, &kids);
-        let is_open = is_open(kind, &kids);
+        let is_open = opens(kind, is_last_open(&kids));
         let node = Node {
             kids,
             text,

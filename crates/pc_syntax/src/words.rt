@@ -4,7 +4,7 @@ ghost use Rattle.std.specs.Prelude.{◌≡◌, ◌∷◌, []};
 ghost use Rattle.pc_syntax.specs.Words as words;
 
 use crate::bytes::{
-    are_digits, are_name_bytes, is_letter, is_spelled, is_text_byte, is_within_limit, lower,
+    are_digits, are_name_bytes, is_letter, is_spelled, is_text_byte, lower, value_of,
 };
 
 /// Whether the word is a key word, in any case.
@@ -54,7 +54,8 @@ pub fn is_identifier(word: &[u8]) -> bool
     has_name_form(word) && !is_key_word(word)
 }
 
-fn has_name_form(word: &[u8]) -> bool
+/// Whether the word is a letter, and then letters, digits and `_`.
+pub fn has_name_form(word: &[u8]) -> bool
     ensures { result ≡ words.is_name_form word.now }
 {
     match word {
@@ -76,7 +77,7 @@ pub fn is_forward(word: &[u8]) -> bool
 pub fn is_numeral(word: &[u8]) -> bool
     ensures { result ≡ words.is_numeral word.now }
 {
-    !word.is_empty() && are_digits(word) && is_within_limit(word)
+    !word.is_empty() && are_digits(word) && value_of(word).is_some()
 }
 
 /// Whether the word is a text: one byte or more between apostrophes, each apostrophe in it doubled.

@@ -12,6 +12,6 @@ invariant_of-result c =
       depth = k.depth_is;
       holes = k.holes_is;
       fewer = k.fewer;
-      is_open = rw c.deref-2.ensures.value at c.is_open-is_open.ensures ∙ sym (is_open-node c.args.kind _ _ c.args.kids.items);
+      is_open = rw (c.is_last_open.ensures, c.deref-2.ensures.value) at c.opens-is_open.ensures ∙ sym (is_open-node c.args.kind _ _ c.args.kids.items);
       proper = c.requires;
     })

@@ -1,6 +1,6 @@
 use Rattle.std.proofs.Common.{◌≡◌, ◌<◌, ◌^◌, length}
 use Rattle.pc_syntax.specs.Words as words
-use Rattle.pc_syntax.proofs.bytes.is_within_limit.Given as goal
+use Rattle.pc_syntax.proofs.bytes.value_of.Given as goal
 
 -- the digits that are left make the number of the value before them
 abbrev pub invariant-loop-rest : goal.invariant-loop-rest
