@@ -4,8 +4,8 @@ use Rattle.std.specs.Str.{bytes_eq}
 use Rattle.pc_script.specs.Ahead.{Ahead, Takes, IsSame, IsDone, IsCutOff}
 use Rattle.pc_script.specs.Reading.{Reading, Took, Fails, over}
 use Rattle.pc_script.proofs.ReadingSteps.{Took-none, Took-over, Fails-over}
-use Rattle.pc_script.specs.Form.{is_skipped, here_word, shortened}
-use Rattle.pc_script.specs.Script.{commands, commands_ahead, after_line, Place, Between, InText}
+use Rattle.pc_command.specs.Form.{is_skipped, here_word}
+use Rattle.pc_script.specs.Script.{shortened, commands, commands_ahead, after_line, Place, Between, InText}
 use Rattle.pc_script.specs.declared.ahead.Next.TheVariants.{Item, End, TooMany}
 
 ahead-is : {X : Type 0} (a b : Ahead X) (x : X) → a.items ≡ x ∷ b.items → b.further ≡ a.further → a ≡ record { items = x ∷ b.items; further = b.further }

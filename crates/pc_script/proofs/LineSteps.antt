@@ -11,8 +11,8 @@ use Rattle.std.specs.Str.Lines.{strip_carriage_return, lines_of_parts}
 use Rattle.pc_script.specs.Ahead.{Ahead, Takes, IsDone, IsCutOff}
 use Rattle.pc_script.specs.Reading.{Reading, Took, Took-more, Fails, over}
 use Rattle.pc_script.proofs.ReadingSteps.{Took-none, Took-then, Fails-then}
-use Rattle.pc_script.specs.Form.{shortened, line_limit}
-use Rattle.pc_script.specs.Script.{lines_ahead, ended_lines_of_parts}
+use Rattle.pc_command.specs.Form.{line_limit}
+use Rattle.pc_script.specs.Script.{shortened, lines_ahead, ended_lines_of_parts}
 use Rattle.pc_script.specs.declared.ahead.Next.TheVariants.{Item, End, TooMany}
 
 -- These bytes came.

@@ -1,16 +1,19 @@
 -- How the bytes of a script are cut into units, lines and commands.
-use Rattle.std.specs.Prelude.{ℕ, ◌≡◌, ◌-◌, Bool, true, false, ◌||◌, ◌==◌, if◌then◌else◌, nat_le, nat_lt, List, [], ◌∷◌, ◌++◌, map, take, length, Some, None}
+use Rattle.std.specs.Prelude.{ℕ, ◌≡◌, ◌+◌, ◌-◌, Bool, true, false, ◌||◌, ◌==◌, if◌then◌else◌, nat_le, nat_lt, List, [], ◌∷◌, ◌++◌, map, take, length, Some, None}
 use Rattle.std.proofs.Common.{refl}
 use Rattle.std.specs.List.{onto_first, concat, slice_split}
 use Rattle.std.specs.Option.{option_map_or}
 use Rattle.std.specs.Str.{bytes_eq}
 use Rattle.std.specs.Str.Lines.{strip_carriage_return, lines_of_parts}
 use Rattle.pc_script.specs.Ahead.{Ahead, or_more}
-pub use Rattle.pc_script.specs.Form.{line_limit, line_limit-is}
-use Rattle.pc_script.specs.Form.{shortened, is_skipped, here_word}
+use Rattle.pc_command.specs.Form.{line_limit, is_skipped, here_word}
 use Rattle.pc_script.specs.declared.ahead.Next.{Next}
 use Rattle.pc_script.specs.declared.ahead.Next.TheVariants.{Item, End, TooMany}
 use Rattle.pc_script.specs.declared.given.Given.{Given}
+
+-- Of a line or a text no more is looked at than tells that it is too long.
+abbrev pub shortened : List ℕ → List ℕ
+shortened bytes = take (line_limit + 1) bytes
 
 -- A unit ends at a line feed, or when it has no room for more. It has room for 1,000,000 bytes.
 unfoldable pub units : ℕ → List ℕ → List (List ℕ)

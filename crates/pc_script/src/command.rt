@@ -4,14 +4,14 @@ ghost use Rattle.pc_script.specs.Ahead.{Takes};
 ghost use Rattle.pc_script.specs.Causes.{StopHasCause};
 ghost use Rattle.pc_script.specs.Reading.{Took, Fails, over};
 ghost use Rattle.pc_script.specs.Intake.{lines_of, commands_of, has_ended, allowance, LowersAt, EndsAt};
-ghost use Rattle.pc_script.specs.Form.{is_skipped, shortened};
-ghost use Rattle.pc_script.specs.Script.{commands_ahead, command_with, after_line, Between, InText};
+ghost use Rattle.pc_command.specs.Form.{is_skipped};
+ghost use Rattle.pc_script.specs.Script.{shortened, commands_ahead, command_with, after_line, Between, InText};
 
 use crate::ahead::{Next, Stop};
-use crate::form::{here_word, is_skipped};
 use crate::given::Given;
 use crate::intake::Intake;
 use crate::lines::{kept_len, next_line};
+use pc_command::{here_word, is_skipped};
 use pc_syntax::Word;
 use pc_world::Source;
 use std::alloc::Global;

@@ -1,12 +1,11 @@
 //! The commands of a script: its bytes are cut into units, the units into lines, and the lines into commands.
 //!
 //! Start at `next_command`. What a script's commands are stands in `specs/Script.antt`, and what a call says of the
-//! bytes that it took in `specs/Reading.antt`. The form of one line has a page of its own, `specs/Form.antt`.
+//! bytes that it took in `specs/Reading.antt`.
 #![tactic(auto)]
 
 mod ahead;
 mod command;
-mod form;
 mod given;
 mod intake;
 mod lines;
@@ -17,4 +16,3 @@ pub use ahead::{Next, Stop};
 pub use command::next_command;
 pub use given::Given;
 pub use intake::{Intake, MOST_UNITS, UNIT_LEN};
-pub use lines::LINE_LEN;

@@ -5,16 +5,15 @@ ghost use Rattle.pc_script.specs.Ahead.{Takes};
 ghost use Rattle.pc_script.specs.Causes.{StopHasCause};
 ghost use Rattle.pc_script.specs.Reading.{Took, Fails};
 ghost use Rattle.pc_script.specs.Intake.{lines_of, has_ended, allowance, LowersAt, EndsAt};
-ghost use Rattle.pc_script.specs.Form.{shortened, line_limit};
+ghost use Rattle.pc_command.specs.Form.{line_limit};
+ghost use Rattle.pc_script.specs.Script.{shortened};
 
 use crate::ahead::{Next, Stop};
 use crate::intake::Intake;
+use pc_command::LINE_LEN;
 use pc_syntax::Word;
 use pc_world::Source;
 use std::alloc::Global;
-
-/// The most bytes of a line that aren't too many.
-pub const LINE_LEN: usize = 1_000_000;
 
 // One byte more than tells that a line is too long, since the last may be a carriage return that doesn't count.
 const KEPT: usize = LINE_LEN + 2;
@@ -78,7 +77,7 @@ fn ended(mut line: Vec<u8>) -> Word
 }
 
 // How many bytes of a line are kept. The number has a name of its own here, since a proof would count a numeral down.
-#[tactic(auto, unfolding(crate::specs::Form::line_limit))]
+#[tactic(auto, unfolding(pc_command::specs::Form::line_limit))]
 pub(crate) fn kept_len() -> usize
     ensures { result ≡ line_limit + 1 }
 {

@@ -44,7 +44,7 @@ fn shown(alloc: Global, script: &[u8], fails: &[u64]) -> Result<Vec<u8>, Fail> {
 #[test]
 fn a_script_has_these_commands(rt: HostRuntime) -> Result<(), Fail> {
     let none: &[u64] = &[];
-    let cases: [(&[u8], &[u64], &[u8]); 18] = [
+    let cases: [(&[u8], &[u64], &[u8]); 19] = [
         (b"", none, b"."),
         (b"a\0b\n", none, b"<a\0b>."),
         (b"  a  ", none, b"<  a  >."),
@@ -57,6 +57,11 @@ fn a_script_has_these_commands(rt: HostRuntime) -> Result<(), Fail> {
             b"<load <<E>{x\n\n#y\n E\n}<z>.",
         ),
         (b"  load <<aZ\r\naZ\r\n", none, b"<  load <<aZ>{}."),
+        (
+            b"fill / <<E\nx\nE\nput / <<E\n",
+            none,
+            b"<fill / <<E>{x\n}<put / <<E>.",
+        ),
         (b"load <<E\nx\nE", none, b"<load <<E>{x\n}."),
         (b"load <<E\nx\n", none, b"<load <<E>."),
         (

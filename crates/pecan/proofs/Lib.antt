@@ -1,4 +1,2 @@
-pub mod LoadSteps
+pub mod ReplySteps
 pub mod RunSteps
-pub mod SessionSteps
-pub mod WordSteps

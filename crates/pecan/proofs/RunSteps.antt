@@ -14,7 +14,8 @@ use Rattle.pc_script.specs.Script.{script-further, commands_in, unit_count}
 use Rattle.pc_script.specs.Reading.{Reading, Took, Took-more, Fails, IsMet, MayCome-left}
 use Rattle.pc_script.specs.declared.given.Given.{Given}
 use Rattle.pc_script.specs.declared.ahead.Next.TheVariants.{Item, End, TooMany}
-use Rattle.pecan.specs.Session.{State, Answers, Answers-no_memory, no_memory}
+use Rattle.pecan.specs.State.{State}
+use Rattle.pecan.specs.Obeying.{Answers, Answers-no_memory, no_memory}
 use Rattle.pecan.specs.Transcript.{Replies, WritesTranscript, WritesFront, WritesReplies, WritesPart, WritesAnswer, Went}
 use Rattle.pecan.specs.declared.status.Status.{Status}
 use Rattle.pecan.specs.declared.status.Status.TheVariants.{Done, TooManyLines}

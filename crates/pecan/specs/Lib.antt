@@ -1,8 +1,4 @@
 pub mod Codes
-pub mod Finding
-pub mod Loading
-pub mod LoadingLaws
-pub mod PlainSession
-pub mod Session
+pub mod Obeying
+pub mod State
 pub mod Transcript
-pub mod Words

@@ -4,7 +4,8 @@ use Rattle.std.specs.List.{concat}
 use Rattle.std.specs.Io.KnownBytes.{Appends}
 use Rattle.pc_world.specs.Files.{Files}
 use Rattle.pc_script.specs.Ahead.{Ahead}
-use Rattle.pecan.specs.Session.{State, Answers}
+use Rattle.pecan.specs.State.{State}
+use Rattle.pecan.specs.Obeying.{Answers}
 use Rattle.pc_script.specs.declared.given.Given.{Given}
 use Rattle.pecan.specs.declared.status.Status.{Status}
 use Rattle.pecan.specs.declared.status.Status.TheVariants.{Done, TooManyLines}

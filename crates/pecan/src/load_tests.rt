@@ -1,10 +1,7 @@
-ghost use Rattle.std.specs.Prelude.{◌≡◌, ◌<◌};
-
-use crate::status::Status;
-use crate::tests::{outcome, sound};
+use crate::tests::replies;
 use std::alloc::Global;
 use std::marker::Brand;
-use std::sync::ledger::{Blank, Ledger};
+use std::sync::ledger::Blank;
 use std::test::Fail;
 
 const COUNTING: &[u8] = b"program b; var i: integer; begin i := 1; i := i + 1; write(i:2) end.";
@@ -22,19 +19,6 @@ fn load(script: &mut Vec<u8>, text: &[u8]) -> Result<(), Fail> {
     script.extend_from_slice(text)?;
     script.extend_from_slice(b"\nE\n")?;
     Ok(())
-}
-
-// What is written for a script that is answered to its end.
-fn replies<L: Ledger>(alloc: Global, script: Vec<u8>, blank: Blank) -> Result<Vec<u8>, Fail>
-    requires name { blank.name ≡ L.name }
-    requires parts { blank.parts ≡ L.parts }
-    requires some { 0 < blank.parts }
-{
-    let (status, written) = outcome::<L>(alloc, &sound(b"", b""), script, &[], blank)?;
-    if status != Status::Done {
-        return Ok(Vec::new(alloc));
-    }
-    Ok(written)
 }
 
 #[test]
@@ -192,7 +176,7 @@ fn text_of(alloc: Global, parts: &Repeated) -> Result<Vec<u8>, Fail> {
 fn a_text_that_is_too_long_or_too_deep_is_refused(rt: HostRuntime) -> Result<(), Fail> {
     let cases = [
         spaced(999_978, LOADED),
-        spaced(999_979, NOT_BUILT),
+        spaced(999_979, b"refused: too long\n"),
         compounds(126, LOADED),
         compounds(127, NOT_BUILT),
         compounds(90_000, NOT_BUILT),

@@ -1,23 +1,21 @@
 //! The program: it reads a script of commands, and writes the reply to each.
 //!
 //! Start at `pecan` in `run.rt`. What it writes is a transcript of the script
-//! (`specs/Transcript.antt`): for each command one piece, which `specs/Session.antt` allows as its
-//! answer. `obey` in `session.rt` does one command, and `program_of` in `load.rt` reads a program.
+//! (`specs/Transcript.antt`): for each command one piece, which `specs/Obeying.antt` allows as its
+//! answer. `obey` in `obey.rt` does one command.
 #![tactic(auto)]
 
 ghost use Rattle.std.specs.Prelude.{◌≡◌, ◌<◌};
 
-mod laws;
-mod load;
+#[cfg(test)]
+mod edit_tests;
 #[cfg(test)]
 mod load_tests;
-mod refusal;
+mod obey;
 mod run;
-mod session;
 mod status;
 #[cfg(test)]
 mod tests;
-mod words;
 
 use crate::run::pecan;
 use crate::status::Status;

@@ -6,12 +6,14 @@ ghost use Rattle.pc_world.specs.Causes.{HasCause, Rose, IsSound};
 ghost use Rattle.pc_world.specs.HandedOn.{HandsOn};
 ghost use Rattle.pc_script.specs.Intake.{commands_to_come, has_ended};
 ghost use Rattle.pc_script.specs.Script.{script, whole_commands, unit_count};
-ghost use Rattle.pecan.specs.Session.{opening, state_of};
+ghost use Rattle.pc_session.specs.PlainSession.{opening};
+ghost use Rattle.pecan.specs.State.{state_of};
 ghost use Rattle.pecan.specs.Transcript.{WritesAnswer, WritesPart, WritesReplies, WritesFront, WritesTranscript};
 
-use crate::session::{Session, obey};
+use crate::obey::obey_line;
 use crate::status::Status;
 use pc_script::{Given, Intake, Next, Stop, next_command};
+use pc_session::Session;
 use pc_syntax::Steps;
 use pc_world::{Failed, Shelf, Sink, Source, put_all};
 use std::alloc::Global;
@@ -82,12 +84,12 @@ fn run<S: Source, K: Sink, H: Shelf, L: Ledger>(
     requires unended { has_ended intake.old ≡ false }
     ensures transcript { result ≢ Status.ReadFault → result ≢ Status.WriteFault → result ≢ Status.NoMemory
         → IfSome (S.left source.old) (λ bytes. WritesTranscript (commands_to_come intake.old bytes false)
-        (state_of session.old (H.files shelf.old)) (K.written sink.old) (K.written sink.new) (H.files shelf.new) result) }
+        (state_of session.old.now (H.files shelf.old)) (K.written sink.old) (K.written sink.new) (H.files shelf.new) result) }
     ensures interrupted { IfSome (S.left source.old) (λ bytes. WritesFront (commands_to_come intake.old bytes false)
-        (state_of session.old (H.files shelf.old)) (K.written sink.old) (K.written sink.new)) }
+        (state_of session.old.now (H.files shelf.old)) (K.written sink.old) (K.written sink.new)) }
     ensures read_fault { result ≡ Status.ReadFault → (taken : List ℕ) × Consumes (S.left source.old) (S.left source.new) taken
         × WritesReplies (commands_to_come intake.old taken true).items
-        (state_of session.old (H.files shelf.old)) (K.written sink.old) (K.written sink.new) (H.files shelf.new) }
+        (state_of session.old.now (H.files shelf.old)) (K.written sink.old) (K.written sink.new) (H.files shelf.new) }
     ensures ended { result ≡ Status.Done → IsAtEnd (S.left source.new) }
     ensures bad_words { result ≢ Status.BadWords }
     ensures not_refused { result ≢ Status.Refused }
@@ -100,7 +102,7 @@ fn run<S: Source, K: Sink, H: Shelf, L: Ledger>(
     'commands: loop {
         match next_command(alloc, intake, source) {
             Ok(Next::Item(given)) => {
-                match answer(alloc, session, sink, shelf, &given, work) {
+                match answer(alloc, session, sink, shelf, given, work) {
                     Ok(()) => {}
                     Err(_) => return Status::WriteFault,
                 }
@@ -119,18 +121,18 @@ fn answer<K: Sink, H: Shelf, L: Ledger>(
     session: &mut Session,
     sink: &mut K,
     shelf: &mut H,
-    given: &Given,
+    given: Given,
     work: &mut Steps<L>,
 ) -> Result<(), Failed>
-    ensures ok { OnOk result (WritesAnswer (state_of session.old (H.files shelf.old)) given.now (state_of session.new (H.files shelf.new))
+    ensures ok { OnOk result (WritesAnswer (state_of session.old.now (H.files shelf.old)) given (state_of session.new.now (H.files shelf.new))
         (K.written sink.old) (K.written sink.new)) }
-    ensures err { OnErr result (WritesPart (state_of session.old (H.files shelf.old)) given.now (K.written sink.old) (K.written sink.new)) }
+    ensures err { OnErr result (WritesPart (state_of session.old.now (H.files shelf.old)) given (K.written sink.old) (K.written sink.new)) }
     ensures handed_on { OnOk result (HandsOn (K.written sink.new) (K.handed_on sink.new)) }
     ensures cause { HasCause (K.faults sink.old) (K.faults sink.new) result }
 {
-    match obey(alloc, session, shelf, given, work) {
+    match obey_line(alloc, session, shelf, given, work) {
         Ok(piece) => {
-            hand_on(sink, &piece)?;
+            hand_on(sink, piece.bytes())?;
             Ok(())
         }
         Err(_) => {

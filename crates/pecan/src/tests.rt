@@ -15,6 +15,10 @@ const NOT_BUILT: &[u8] = b"refused: not built yet\n";
 
 const TWICE_NOT_BUILT: &[u8] = b"refused: not built yet\nrefused: not built yet\n";
 
+const UNKNOWN: &[u8] = b"refused: unknown command\n";
+
+const MISSING: &[u8] = b"refused: missing\n";
+
 const NONE: &[u64] = &[];
 
 // A run over a script, where these calls of the source and of the sink fail.
@@ -84,6 +88,19 @@ pub fn outcome<L: Ledger>(
     Ok((status, sink.bytes().to_vec(alloc)?))
 }
 
+// What is written for a script that is answered to its end.
+pub fn replies<L: Ledger>(alloc: Global, script: Vec<u8>, blank: Blank) -> Result<Vec<u8>, Fail>
+    requires name { blank.name ≡ L.name }
+    requires parts { blank.parts ≡ L.parts }
+    requires some { 0 < blank.parts }
+{
+    let (status, written) = outcome::<L>(alloc, &sound(b"", b""), script, &[], blank)?;
+    if status != Status::Done {
+        return Ok(Vec::new(alloc));
+    }
+    Ok(written)
+}
+
 #[test]
 fn a_script_gets_these_replies_and_this_status(rt: HostRuntime) -> Result<(), Fail> {
     let cases = [
@@ -91,20 +108,26 @@ fn a_script_gets_these_replies_and_this_status(rt: HostRuntime) -> Result<(), Fa
         sound(b"show syntax", SHOWN),
         sound(
             b"  show   syntax  \r\n\n# x\n  \nfrob\n",
-            b"?program\nrefused: not built yet\n",
+            b"?program\nrefused: unknown command\n",
         ),
-        sound(b"show syntax\r", NOT_BUILT),
-        sound(b"showsyntax", NOT_BUILT),
-        sound(b"show syntax x", NOT_BUILT),
-        sound(b"show", NOT_BUILT),
-        sound(b"\0\nshow\0syntax\n", TWICE_NOT_BUILT),
+        sound(b"show syntax\r", UNKNOWN),
+        sound(b"showsyntax", UNKNOWN),
+        sound(b"show syntax x", b"refused: extra\n"),
+        sound(b"show", MISSING),
+        sound(
+            b"\0\nshow\0syntax\n",
+            b"refused: unknown command\nrefused: unknown command\n",
+        ),
         sound(
             b"load <<E\nif\nE\nshow syntax\n",
             b"refused: not built yet\n?program\n",
         ),
         sound(b"  load <<End\nprogram a; forward.\nEnd", b"ok 0\n"),
-        sound(b"load <<E\nprogram a; forward.\n", NOT_BUILT),
-        sound(b"load <<E1\nload program a; forward.\n", TWICE_NOT_BUILT),
+        sound(b"load <<E\nprogram a; forward.\n", MISSING),
+        sound(
+            b"load <<E1\nload program a; forward.\n",
+            b"refused: not built yet\nok 0\n",
+        ),
         sound(b"load <<E \nload  <<E\n", TWICE_NOT_BUILT),
         unread(b"show syntax\n", &[1], b""),
         unread(b"show syntax\nshow syntax\n", &[2], b"?program\n?program\n"),
@@ -112,7 +135,7 @@ fn a_script_gets_these_replies_and_this_status(rt: HostRuntime) -> Result<(), Fa
         unread(b"load <<E\nprogram a;\n", &[2], b""),
         unwritten(&[1], 999, b""),
         unwritten(&[2], 999, SHOWN),
-        unwritten(&[5], 999, b"?program\nrefused: not built yet\n"),
+        unwritten(&[5], 999, b"?program\nrefused: unknown command\n"),
         unwritten(NONE, 12, b"?program\nref"),
     ];
     for case in &cases {
@@ -141,7 +164,7 @@ fn a_word_of_the_command_line_is_refused(rt: HostRuntime) -> Result<(), Fail> {
 fn a_line_of_over_1_000_000_bytes_is_refused(rt: HostRuntime) -> Result<(), Fail> {
     let cases = [
         (999_989, sound(b"show syntax", SHOWN)),
-        (999_990, sound(b"show syntax", NOT_BUILT)),
+        (999_990, sound(b"show syntax", b"refused: too long\n")),
     ];
     for (spaces, case) in &cases {
         let mut script = case.script.to_vec(rt.alloc())?;

@@ -1,6 +1,6 @@
 use Rattle.std.proofs.Common.{◌≡◌, sym, Some, None}
 use Rattle.std.proofs.lemmas.Result.{err_from_is_err_and}
-use Rattle.pc_script.specs.Form.{here_word}
+use Rattle.pc_command.specs.Form.{here_word}
 use Rattle.pc_script.proofs.ReadingSteps.{Took-filled, Fails-filled, IsErrOf-other}
 use Rattle.pc_script.proofs.CommandSteps.{Took-plain, Took-begun_text}
 use Rattle.pc_script.proofs.command.command_at.Goals as goal

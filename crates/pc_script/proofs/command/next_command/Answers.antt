@@ -1,7 +1,7 @@
 use Rattle.std.proofs.Common.{◌≡◌, ◌∙◌, true, sym, arith}
 use Rattle.std.proofs.lemmas.Result.{err_from_is_err_and}
 use Rattle.pc_script.specs.Intake.{commands_to_come}
-use Rattle.pc_script.specs.Form.{is_skipped}
+use Rattle.pc_command.specs.Form.{is_skipped}
 use Rattle.pc_script.specs.Script.{Between}
 use Rattle.pc_script.proofs.ReadingSteps.{Took-filled, Fails-filled, IsErrOf-other}
 use Rattle.pc_script.proofs.CommandSteps.{Took-skipped, Took-begun, Took-end_between, Took-too_many, Fails-at}

@@ -1,5 +1,5 @@
 use Rattle.std.proofs.Common.{◌+◌, arith, ◌∙◌}
-use Rattle.pc_script.specs.Form.{line_limit, line_limit-is}
+use Rattle.pc_command.specs.Form.{line_limit, line_limit-is}
 use Rattle.pc_script.proofs.LineSteps.{gather-full, gather-more}
 use Rattle.pc_script.proofs.lines.gather.Goals as goal
 

@@ -1,6 +1,6 @@
 use Rattle.std.proofs.Common.{◌≡◌, ◌+◌, ◌≤◌, vec_len}
 use Rattle.pc_script.specs.Intake.{bytes_of, allowance}
-use Rattle.pc_script.specs.Form.{line_limit}
+use Rattle.pc_command.specs.Form.{line_limit}
 use Rattle.pc_script.proofs.LineSteps.{Gathered}
 use Rattle.pc_script.proofs.lines.next_line.Given as goal
 

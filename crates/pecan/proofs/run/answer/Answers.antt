@@ -1,5 +1,5 @@
 use Rattle.std.proofs.lemmas.Result.{err_from_is_err_and}
-use Rattle.pecan.specs.Session.{Answers-no_memory}
+use Rattle.pecan.specs.Obeying.{Answers-no_memory}
 use Rattle.pecan.proofs.run.answer.Goals as goal
 
 pub returns-in_err-hand_on-in-Err-clause-err : goal.returns-in_err-hand_on-in-Err-clause-err

@@ -10,17 +10,6 @@ returns-in-Err-clause-interrupted g c =
     let next = rw c.in-Ok-Item.field-0-is at c.in-Ok-Item.ensures.ok in
     Progress-part _ _ _ _ _ _ _ _ _ c.commands.invariant.progress next c.in-Err.ensures.err c.requires.unended
 
-pub commands-preserved-in-Ok : goal.commands-preserved-in-Ok
-commands-preserved-in-Ok g c =
-    let i = c.commands.invariant in
-    let next = rw c.in-Ok-Item.field-0-is at c.in-Ok-Item.ensures.ok in
-    record {
-      progress = Progress-more _ _ _ _ _ _ _ _ _ _ i.progress next c.in-Ok.ensures.ok;
-      handed = λ h. c.in-Ok.ensures.handed_on;
-      read = c.in-Ok-Item.ensures.cause.kept ∙ i.read;
-      write = c.in-Ok.ensures.cause.kept ∙ i.write;
-    }
-
 pub commands-preserved : goal.commands-preserved
 commands-preserved g c =
     let i = c.commands.invariant in

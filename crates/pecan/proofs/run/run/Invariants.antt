@@ -1,7 +1,7 @@
 use Rattle.std.proofs.Common.{◌≡◌}
 use Rattle.pc_world.specs.HandedOn.{HandsOn}
 use Rattle.pc_script.specs.Intake.{commands_of, allowance}
-use Rattle.pecan.specs.Session.{state_of}
+use Rattle.pecan.specs.State.{state_of}
 use Rattle.pecan.proofs.RunSteps.{Progress}
 use Rattle.pecan.proofs.run.run.Given as goal
 
@@ -14,8 +14,8 @@ invariant-commands g l =
     let handed_on = g.K.Sink.handed_on in
     record {
       progress : Progress
-          (commands_of l.fn.intake (left l.fn.source)) (state_of l.fn.session (files l.fn.shelf)) (written l.fn.sink)
-          (commands_of l.intake (left l.source)) (state_of l.session (files l.shelf)) (written l.sink);
+          (commands_of l.fn.intake (left l.fn.source)) (state_of l.fn.session.now (files l.fn.shelf)) (written l.fn.sink)
+          (commands_of l.intake (left l.source)) (state_of l.session.now (files l.shelf)) (written l.sink);
       handed : HandsOn (written l.fn.sink) (handed_on l.fn.sink) → HandsOn (written l.sink) (handed_on l.sink);
       read : g.S.Source.faults l.source ≡ g.S.Source.faults l.fn.source;
       write : g.K.Sink.faults l.sink ≡ g.K.Sink.faults l.fn.sink;

@@ -1,0 +1,7 @@
+pub mod Form
+pub mod Laws
+pub mod Lines
+pub mod Replies
+pub mod Texts
+pub mod Vocabulary
+pub mod Words

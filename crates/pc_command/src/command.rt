@@ -1,0 +1,27 @@
+//! Commands.
+
+use pc_syntax::{Path, Word};
+
+/// What a command line asks for.
+#[derive(Drop)]
+pub enum Command {
+    /// `load TEXT`: the program that the text writes becomes the session's.
+    Load(Word),
+    /// `put PATH TEMPLATE`: a piece of this name is put where the path leads.
+    Put(Path, Word),
+    /// `cut PATH`: what stands where the path leads is taken out.
+    Cut(Path),
+    /// `undo`: back to before the last change.
+    Undo,
+    /// `redo`: the change that was undone last, again.
+    Redo,
+    /// `show VIEW`.
+    Show(ViewName),
+}
+
+/// What is to be shown.
+#[derive(Clone, Copy, Debug, PartialEq, Eq)]
+pub enum ViewName {
+    /// The text of the program.
+    Syntax,
+}

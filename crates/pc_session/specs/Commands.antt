@@ -1,0 +1,45 @@
+-- What a command answers, and the session that it leaves.
+use Rattle.std.specs.Prelude.{◌≡◌, ℕ, List, [], Result, Ok, Err}
+use Rattle.pc_syntax.specs.Plain.{Plain}
+use Rattle.pc_pretty.specs.Printed.{printed}
+use Rattle.pc_command.specs.declared.refusal.Refusal.{Refusal}
+use Rattle.pc_command.specs.declared.refusal.Refusal.TheVariants.{NothingToUndo, NothingToRedo, NoMemory}
+use Rattle.pc_command.specs.declared.command.ViewName.{ViewName}
+use Rattle.pc_command.specs.declared.command.ViewName.TheVariants.{Syntax}
+use Rattle.pc_session.specs.declared.accepted.Accepted.{Accepted}
+use Rattle.pc_session.specs.PlainSession.{PlainSession}
+use Rattle.pc_session.specs.Trees.{edited, Undoes}
+
+-- An edit was accepted: it gives this tree, it makes no step, and so many comments were dropped.
+pub record Accepts (s : PlainSession) (tree : Plain) (dropped : ℕ) (answer : Accepted) (t : PlainSession) : Type 0 where
+  pub trees : t.trees ≡ edited s.trees tree
+  pub count : t.count ≡ s.count
+  pub counted : answer.count ≡ t.count
+  pub dropped_is : answer.dropped ≡ dropped
+
+-- An edit that gives this tree was accepted, or there was no memory and nothing changes.
+abbrev pub IsEdited : PlainSession → Plain → ℕ → Result Accepted Refusal → PlainSession → Type 0
+IsEdited s tree dropped (Ok answer) t = Accepts s tree dropped answer t
+IsEdited s tree dropped (Err NoMemory) t = t ≡ s
+IsEdited s tree dropped (Err _) t = ⊥
+
+-- An edit, by what it makes of the program: that is the session's now, or it is refused and nothing changes.
+abbrev pub Edits : (Plain → Result Plain Refusal → Type 0) → PlainSession → Result Accepted Refusal → PlainSession → Type 0
+Edits makes s (Ok answer) t = (tree : Plain) × makes s.trees.tree (Ok tree) × Accepts s tree 0 answer t
+Edits makes s (Err refusal) t = makes s.trees.tree (Err refusal) × (t ≡ s)
+
+-- Undo: the last edit is undone, or there is none.
+abbrev pub IsUndone : PlainSession → Result ℕ Refusal → PlainSession → Type 0
+IsUndone s (Ok count) t = Undoes s.trees t.trees × (t.count ≡ s.count) × (count ≡ t.count)
+IsUndone s (Err NothingToUndo) t = (s.trees.earlier ≡ []) × (t ≡ s)
+IsUndone s (Err _) t = ⊥
+
+-- Redo: the edit that was undone last is made again, or there is none.
+abbrev pub IsRedone : PlainSession → Result ℕ Refusal → PlainSession → Type 0
+IsRedone s (Ok count) t = Undoes t.trees s.trees × (t.count ≡ s.count) × (count ≡ t.count)
+IsRedone s (Err NothingToRedo) t = (s.trees.undone ≡ []) × (t ≡ s)
+IsRedone s (Err _) t = ⊥
+
+-- The text of a view.
+abbrev pub shown : ViewName → PlainSession → List ℕ
+shown Syntax s = printed s.trees.tree

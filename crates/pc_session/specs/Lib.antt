@@ -1,0 +1,10 @@
+pub mod Commands
+pub mod Editing
+pub mod Finding
+pub mod Line
+pub mod Loading
+pub mod LoadingLaws
+pub mod Making
+pub mod PlainSession
+pub mod Trees
+pub mod TreesLaws

@@ -1,0 +1,212 @@
+//! A session, and what each command does to it.
+
+ghost use Rattle.std.specs.Prelude.{◌≡◌, Err, IfOk};
+ghost use Rattle.pc_syntax.specs.Plain.{Plain};
+ghost use Rattle.pc_session.specs.Commands.{IsEdited, Edits, IsUndone, IsRedone, shown};
+ghost use Rattle.pc_session.specs.Editing.{Writes, Puts, Cuts};
+ghost use Rattle.pc_session.specs.Finding.{StepsOnSymbols};
+ghost use Rattle.pc_session.specs.PlainSession.{opening};
+ghost use Rattle.pc_session.specs.Trees.{Trees, edited};
+
+use crate::accepted::Accepted;
+use crate::editing::{with_template, without_node};
+use crate::history::History;
+use crate::load::program_of;
+use pc_command::{Refusal, ViewName};
+use pc_pretty::print;
+use pc_syntax::{Path, Sort, Steps, Tree, hole};
+use std::alloc::{AllocError, Global};
+use std::marker::Model;
+use std::sync::ledger::Ledger;
+
+/// A session: the program as a tree, with undo and redo, and the count of the steps that it has made.
+/// A command that is refused changes nothing. So far none makes a step.
+#[derive(Drop)]
+pub struct Session {
+    history: History,
+    count: u64,
+}
+
+impl Model for Session {
+    ghost use Rattle.pc_session.specs.PlainSession.{Sessions, sessions_code, sessions_of};
+
+    ghost Value = { Sessions };
+
+    ghost coded = { sessions_code };
+
+    ghost view = { λ s. sessions_of s.history s.count };
+}
+
+impl Session {
+    /// The session at the start, whose program is `?program`.
+    pub fn new(alloc: Global) -> Result<Session, AllocError>
+        ensures now { IfOk result (λ session. session.now ≡ opening) }
+        ensures before { IfOk result (λ session. session.before ≡ opening) }
+    {
+        let tree = hole(alloc, Sort::Program)?;
+        let history = History::new(alloc, tree)?;
+        Ok(Session { history, count: 0 })
+    }
+
+    /// How many steps it has made.
+    pub fn count(&self) -> u64
+        ensures { result ≡ self.now.now.count }
+    {
+        self.count
+    }
+
+    /// Its program.
+    pub fn tree(&self) -> &Tree
+        ensures { result.now ≡ self.now.now.trees.tree }
+    {
+        self.history.tree()
+    }
+
+    /// Makes the program that the text writes the session's. `NotBuilt` where the text spells no
+    /// symbols, has a comment or a symbol that isn't read so far, or where its program is too deep or
+    /// too large; `NotFit` where it writes no program, with the number of one of its symbols, from 1, or
+    /// one more than it has; no other refusal but `NoMemory`.
+    pub fn load<L: Ledger>(
+        &mut self,
+        alloc: Global,
+        text: &[u8],
+        work: &mut Steps<L>,
+    ) -> Result<Accepted, Refusal>
+        ensures now { Edits (Writes text.now) self.old.now result self.new.now }
+        ensures before { self.new.before ≡ self.old.now }
+        ensures work { StepsOnSymbols text.now work.old work.new }
+    {
+        match program_of(alloc, text, work) {
+            Ok(reading) => self.edit(reading.tree, reading.dropped),
+            Err(refusal) => self.refuse(refusal),
+        }
+    }
+
+    /// Puts the template with a name in the place of the node at a path. The first of these refusals that applies:
+    /// `NoPlace` where there is no such node; `NotBuilt` where the template isn't built yet, and `NoTemplate` where there
+    /// is none of that name; `NotFit(0)` where it doesn't fit there, as in the place of a list; `TooDeep` and `TooLarge`
+    /// with the numbers of the whole new tree.
+    pub fn put<L: Ledger>(
+        &mut self,
+        alloc: Global,
+        path: &Path,
+        template: &[u8],
+        work: &mut Steps<L>,
+    ) -> Result<Accepted, Refusal>
+        ensures now { Edits (Puts path.now template.now) self.old.now result self.new.now }
+        ensures before { self.new.before ≡ self.old.now }
+        ensures work { work.new ≡ work.old }
+    {
+        let _ = &work;
+        match with_template(alloc, self.tree(), path, template) {
+            Ok(tree) => self.edit(tree, 0),
+            Err(refusal) => self.refuse(refusal),
+        }
+    }
+
+    /// Cuts the node at a path: an element that its list can spare goes, and any other node is to be written anew.
+    /// `NoPlace` where there is no such node; no other refusal but `NoMemory`.
+    pub fn cut<L: Ledger>(
+        &mut self,
+        alloc: Global,
+        path: &Path,
+        work: &mut Steps<L>,
+    ) -> Result<Accepted, Refusal>
+        ensures now { Edits (Cuts path.now) self.old.now result self.new.now }
+        ensures before { self.new.before ≡ self.old.now }
+        ensures work { work.new ≡ work.old }
+    {
+        let _ = &work;
+        match without_node(alloc, self.tree(), path) {
+            Ok(tree) => self.edit(tree, 0),
+            Err(refusal) => self.refuse(refusal),
+        }
+    }
+
+    /// Undoes the last edit, and answers the count. Only `NothingToUndo` may come, where no edit is left.
+    pub fn undo<L: Ledger>(&mut self, work: &mut Steps<L>) -> Result<u64, Refusal>
+        ensures now { IsUndone self.old.now result self.new.now }
+        ensures before { self.new.before ≡ self.old.now }
+        ensures gives_back { (s : Trees) (t : Plain) → self.old.now.trees ≡ edited s t → (self.new.now.trees.tree ≡ s.tree) × (self.new.now.trees.earlier ≡ s.earlier) }
+        ensures work { work.new ≡ work.old }
+    {
+        let _ = &work;
+        if self.history.undo() {
+            Ok(self.count)
+        } else {
+            Err(Refusal::NothingToUndo)
+        }
+    }
+
+    /// Makes the edit again that was undone last, and answers the count. Only `NothingToRedo` may
+    /// come, where none is left: an edit leaves none.
+    pub fn redo<L: Ledger>(&mut self, work: &mut Steps<L>) -> Result<u64, Refusal>
+        ensures now { IsRedone self.old.now result self.new.now }
+        ensures before { self.new.before ≡ self.old.now }
+        ensures work { work.new ≡ work.old }
+    {
+        let _ = &work;
+        if self.history.redo() {
+            Ok(self.count)
+        } else {
+            Err(Refusal::NothingToRedo)
+        }
+    }
+
+    /// The text of a view. Only memory can fail.
+    pub fn show<L: Ledger>(
+        &mut self,
+        alloc: Global,
+        name: &ViewName,
+        work: &mut Steps<L>,
+    ) -> Result<Vec<u8>, AllocError>
+        ensures text { IfOk result (λ text. text.items ≡ shown name.now self.old.now) }
+        ensures same { self.new ≡ self.old }
+        ensures work { work.new ≡ work.old }
+    {
+        let _ = &work;
+        match name {
+            ViewName::Syntax => print(alloc, self.tree()),
+        }
+    }
+
+    /// Takes back what the last command did, of those that may change the session. It takes no memory.
+    pub fn revert(&mut self)
+        ensures now { self.new.now ≡ self.old.before }
+        ensures before { self.new.before ≡ self.old.before }
+    {
+        self.history.revert();
+    }
+
+    /// Forgets what was before, so that `revert` takes nothing back. It takes no memory.
+    pub fn settle(&mut self)
+        ensures now { self.new.now ≡ self.old.now }
+        ensures before { self.new.before ≡ self.old.now }
+    {
+        self.history.settle();
+    }
+
+    // An edit that is refused so.
+    fn refuse(&mut self, refusal: Refusal) -> Result<Accepted, Refusal>
+        ensures result { result ≡ Err refusal }
+        ensures now { self.new.now ≡ self.old.now }
+        ensures before { self.new.before ≡ self.old.now }
+    {
+        self.settle();
+        Err(refusal)
+    }
+
+    // An edit that gives this tree.
+    fn edit(&mut self, tree: Tree, dropped: u64) -> Result<Accepted, Refusal>
+        ensures now { IsEdited self.old.now tree dropped result self.new.now }
+        ensures before { self.new.before ≡ self.old.now }
+    {
+        if self.history.edit(tree).is_err() {
+            return Err(Refusal::NoMemory);
+        }
+        Ok(Accepted {
+            count: self.count,
+            dropped,
+        })
+    }
+}

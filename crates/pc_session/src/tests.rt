@@ -1,0 +1,350 @@
+//! Tests of sessions.
+
+ghost use Rattle.std.specs.Prelude.{◌≡◌, ◌<◌};
+
+use crate::accepted::Accepted;
+use crate::session::Session;
+use pc_command::{Refusal, ViewName};
+use pc_syntax::{Kind, Path, Sort, Steps};
+use std::alloc::{AllocError, Global};
+use std::marker::Brand;
+use std::sync::ledger::{Blank, Ledger};
+use std::test::Fail;
+
+const START_SHOWN: &[u8] = b"?program\n";
+
+const A: &[u8] = b"program a; begin end.";
+
+const A_SHOWN: &[u8] = b"program a;\nbegin\nend.\n";
+
+const B: &[u8] = b"program b; begin x end.";
+
+const B_SHOWN: &[u8] = b"program b;\nbegin\n  x\nend.\n";
+
+const C: &[u8] = b"PROGRAM c; Forward.";
+
+const C_SHOWN: &[u8] = b"program c;\nForward.\n";
+
+const COMMENT: &[u8] = b"program a; begin {x} end.";
+
+// A call of a session.
+#[derive(Clone, Copy, Debug)]
+enum Call {
+    Load(&'static [u8]),
+    Put(&'static [u8], &'static [u8]),
+    Cut(&'static [u8]),
+    Undo,
+    Redo,
+    Revert,
+    Settle,
+}
+
+// A call, why it is refused if it is, and what is shown after it.
+#[derive(Clone, Copy)]
+struct Turn {
+    call: Call,
+    refusal: Option<Refusal>,
+    shown: &'static [u8],
+}
+
+fn done(call: Call, shown: &'static [u8]) -> Turn {
+    Turn {
+        call,
+        refusal: None,
+        shown,
+    }
+}
+
+fn refused(call: Call, refusal: Refusal, shown: &'static [u8]) -> Turn {
+    Turn {
+        call,
+        refusal: Some(refusal),
+        shown,
+    }
+}
+
+fn refusal_of<L: Ledger>(
+    alloc: Global,
+    session: &mut Session,
+    call: Call,
+    work: &mut Steps<L>,
+) -> Option<Refusal> {
+    match call {
+        Call::Load(text) => session.load(alloc, text, work).err(),
+        Call::Put(path, template) => match Path::read(alloc, path) {
+            Ok(path) => session.put(alloc, &path, template, work).err(),
+            Err(_) => None,
+        },
+        Call::Cut(path) => match Path::read(alloc, path) {
+            Ok(path) => session.cut(alloc, &path, work).err(),
+            Err(_) => None,
+        },
+        Call::Undo => session.undo(work).err(),
+        Call::Redo => session.redo(work).err(),
+        Call::Revert => {
+            session.revert();
+            None
+        }
+        Call::Settle => {
+            session.settle();
+            None
+        }
+    }
+}
+
+// How many of the turns, one after another from the start, went as they say, before one that didn't.
+fn turns_kept<L: Ledger>(alloc: Global, turns: &[Turn], blank: Blank) -> Result<usize, AllocError>
+    requires name { blank.name ≡ L.name }
+    requires parts { blank.parts ≡ L.parts }
+    requires some { 0 < blank.parts }
+{
+    let mut work = Steps::<L>::new(blank);
+    let mut session = Session::new(alloc)?;
+    for (i, turn) in turns.iter().enumerate() {
+        let refusal = refusal_of(alloc, &mut session, turn.call, &mut work);
+        let shown = session.show(alloc, &ViewName::Syntax, &mut work)?;
+        if refusal != turn.refusal || shown.as_slice() != turn.shown {
+            return Ok(i);
+        }
+    }
+    Ok(turns.len())
+}
+
+#[test]
+fn undo_and_redo_go_along_the_edits(rt: HostRuntime) -> Result<(), Fail> {
+    let turns = [
+        refused(Call::Undo, Refusal::NothingToUndo, START_SHOWN),
+        refused(Call::Redo, Refusal::NothingToRedo, START_SHOWN),
+        done(Call::Load(A), A_SHOWN),
+        done(Call::Load(B), B_SHOWN),
+        done(Call::Load(C), C_SHOWN),
+        refused(Call::Redo, Refusal::NothingToRedo, C_SHOWN),
+        done(Call::Undo, B_SHOWN),
+        done(Call::Undo, A_SHOWN),
+        done(Call::Redo, B_SHOWN),
+        refused(Call::Load(COMMENT), Refusal::NotBuilt, B_SHOWN),
+        refused(Call::Load(b"."), Refusal::NotFit(1), B_SHOWN),
+        done(Call::Redo, C_SHOWN),
+        done(Call::Undo, B_SHOWN),
+        done(Call::Undo, A_SHOWN),
+        done(Call::Load(C), C_SHOWN),
+        refused(Call::Redo, Refusal::NothingToRedo, C_SHOWN),
+        done(Call::Undo, A_SHOWN),
+        done(Call::Undo, START_SHOWN),
+        refused(Call::Undo, Refusal::NothingToUndo, START_SHOWN),
+        done(Call::Redo, A_SHOWN),
+        done(Call::Redo, C_SHOWN),
+        refused(Call::Redo, Refusal::NothingToRedo, C_SHOWN),
+    ];
+    let kept = turns_kept::<Brand>(rt.alloc(), &turns, Blank::new(1))?;
+    assert_eq!(rt; kept, turns.len());
+    Ok(())
+}
+
+const PUT_SHOWN: &[u8] = b"program ?name;\n?block.\n";
+
+const BODY_SHOWN: &[u8] = b"program ?name;\n?statement.\n";
+
+const HOLE_SHOWN: &[u8] = b"program b;\nbegin\n  ?statement\nend.\n";
+
+#[test]
+fn a_program_is_edited_by_place(rt: HostRuntime) -> Result<(), Fail> {
+    let turns = [
+        refused(Call::Put(b"/", b"gadget"), Refusal::NoTemplate, START_SHOWN),
+        refused(Call::Put(b"/9", b"gadget"), Refusal::NoPlace, START_SHOWN),
+        refused(Call::Put(b"/", b"if"), Refusal::NotBuilt, START_SHOWN),
+        refused(Call::Put(b"/", b"-"), Refusal::NotBuilt, START_SHOWN),
+        refused(Call::Put(b"/", b"+"), Refusal::NotFit(0), START_SHOWN),
+        refused(Call::Cut(b"/1"), Refusal::NoPlace, START_SHOWN),
+        done(Call::Put(b"/", b"program"), PUT_SHOWN),
+        done(Call::Put(b"/3", b"block"), BODY_SHOWN),
+        refused(Call::Put(b"/3/3", b"block"), Refusal::NotFit(0), BODY_SHOWN),
+        done(Call::Cut(b"/3"), PUT_SHOWN),
+        done(Call::Undo, BODY_SHOWN),
+        refused(Call::Put(b"/9", b"?name"), Refusal::NoPlace, BODY_SHOWN),
+        done(Call::Redo, PUT_SHOWN),
+        done(Call::Load(B), B_SHOWN),
+        done(Call::Revert, PUT_SHOWN),
+        done(Call::Load(B), B_SHOWN),
+        refused(
+            Call::Put(b"/3/5/1", b"?statement"),
+            Refusal::NotFit(0),
+            B_SHOWN,
+        ),
+        done(Call::Cut(b"/3/5/1/1"), HOLE_SHOWN),
+        done(Call::Revert, B_SHOWN),
+        refused(Call::Redo, Refusal::NothingToRedo, B_SHOWN),
+        done(Call::Put(b"/3/5/1/1", b"?statement"), HOLE_SHOWN),
+        done(Call::Undo, B_SHOWN),
+        done(Call::Cut(b"/"), START_SHOWN),
+        refused(Call::Redo, Refusal::NothingToRedo, START_SHOWN),
+        done(Call::Undo, B_SHOWN),
+    ];
+    let kept = turns_kept::<Brand>(rt.alloc(), &turns, Blank::new(1))?;
+    assert_eq!(rt; kept, turns.len());
+    Ok(())
+}
+
+#[test]
+fn revert_takes_back_the_last_call(rt: HostRuntime) -> Result<(), Fail> {
+    let turns = [
+        done(Call::Revert, START_SHOWN),
+        done(Call::Load(A), A_SHOWN),
+        done(Call::Revert, START_SHOWN),
+        refused(Call::Redo, Refusal::NothingToRedo, START_SHOWN),
+        done(Call::Load(A), A_SHOWN),
+        done(Call::Load(B), B_SHOWN),
+        done(Call::Load(C), C_SHOWN),
+        done(Call::Undo, B_SHOWN),
+        done(Call::Revert, C_SHOWN),
+        refused(Call::Redo, Refusal::NothingToRedo, C_SHOWN),
+        done(Call::Undo, B_SHOWN),
+        done(Call::Undo, A_SHOWN),
+        done(Call::Redo, B_SHOWN),
+        done(Call::Revert, A_SHOWN),
+        done(Call::Revert, A_SHOWN),
+        done(Call::Load(C), C_SHOWN),
+        done(Call::Revert, A_SHOWN),
+        done(Call::Redo, B_SHOWN),
+        done(Call::Redo, C_SHOWN),
+        refused(Call::Load(COMMENT), Refusal::NotBuilt, C_SHOWN),
+        done(Call::Revert, C_SHOWN),
+        done(Call::Undo, B_SHOWN),
+        done(Call::Load(A), A_SHOWN),
+        done(Call::Settle, A_SHOWN),
+        done(Call::Revert, A_SHOWN),
+        refused(Call::Redo, Refusal::NothingToRedo, A_SHOWN),
+        done(Call::Undo, B_SHOWN),
+        done(Call::Settle, B_SHOWN),
+        done(Call::Revert, B_SHOWN),
+        done(Call::Redo, A_SHOWN),
+    ];
+    let kept = turns_kept::<Brand>(rt.alloc(), &turns, Blank::new(1))?;
+    assert_eq!(rt; kept, turns.len());
+    Ok(())
+}
+
+const ACCEPTED: Result<Accepted, Refusal> = Ok(Accepted {
+    count: 0,
+    dropped: 0,
+});
+
+// What is answered to a text after another program, and what is shown then.
+fn loaded<L: Ledger>(
+    alloc: Global,
+    text: &[u8],
+    blank: Blank,
+) -> Result<(Result<Accepted, Refusal>, Vec<u8>), AllocError>
+    requires name { blank.name ≡ L.name }
+    requires parts { blank.parts ≡ L.parts }
+    requires some { 0 < blank.parts }
+{
+    let mut work = Steps::<L>::new(blank);
+    let mut session = Session::new(alloc)?;
+    let _ = session.load(alloc, B, &mut work);
+    let answer = session.load(alloc, text, &mut work);
+    let shown = session.show(alloc, &ViewName::Syntax, &mut work)?;
+    Ok((answer, shown))
+}
+
+#[test]
+fn a_text_is_loaded_or_refused(rt: HostRuntime) -> Result<(), Fail> {
+    let cases: [(&[u8], Result<Accepted, Refusal>, &[u8]); 19] = [
+        (A, ACCEPTED, A_SHOWN),
+        (C, ACCEPTED, C_SHOWN),
+        (
+            b"program e(input,output)\n;var i:integer;begin read(i);write(i:1)end.",
+            ACCEPTED,
+            b"program e(input, output);\nvar\n  i: integer;\nbegin\n  read(i);\n  write(i:1)\nend.\n",
+        ),
+        (
+            b"program a; var x, y: (low, mid, high); z: t; begin end.",
+            ACCEPTED,
+            b"program a;\nvar\n  x, y: (low, mid, high);\n  z: t;\nbegin\nend.\n",
+        ),
+        (COMMENT, Err(Refusal::NotBuilt), B_SHOWN),
+        (
+            b"program a; begin end. (* x *)",
+            Err(Refusal::NotBuilt),
+            B_SHOWN,
+        ),
+        (
+            b"program a; begin write('hi') end.",
+            Err(Refusal::NotBuilt),
+            B_SHOWN,
+        ),
+        (
+            b"program a; begin if x then y end.",
+            Err(Refusal::NotBuilt),
+            B_SHOWN,
+        ),
+        (
+            b"program a; begin ?statement end.",
+            Err(Refusal::NotBuilt),
+            B_SHOWN,
+        ),
+        (b"program a; begin \0 end.", Err(Refusal::NotBuilt), B_SHOWN),
+        (b"program a; begin { end.", Err(Refusal::NotBuilt), B_SHOWN),
+        (b"program a; begin 'x end.", Err(Refusal::NotBuilt), B_SHOWN),
+        (
+            b"program a; begin x := 340282366920938463463374607431768211456 end.",
+            Err(Refusal::NotBuilt),
+            B_SHOWN,
+        ),
+        (b"", Err(Refusal::NotFit(1)), B_SHOWN),
+        (b".", Err(Refusal::NotFit(1)), B_SHOWN),
+        (
+            b"program a; begin x := end.",
+            Err(Refusal::NotFit(7)),
+            B_SHOWN,
+        ),
+        (b"program a; begin end", Err(Refusal::NotFit(6)), B_SHOWN),
+        (b"program a; begin end. x", Err(Refusal::NotFit(7)), B_SHOWN),
+        (b"begin end", Err(Refusal::NotFit(1)), B_SHOWN),
+    ];
+    for (text, wanted, shown) in cases {
+        let (answer, text_shown) = loaded::<Brand>(rt.alloc(), text, Blank::new(1))?;
+        assert_eq!(rt; answer, wanted, "{text:?}");
+        assert_eq!(rt; text_shown.as_slice(), shown, "{text:?}");
+    }
+    Ok(())
+}
+
+// A program with so many blocks in one another, after so many spaces.
+fn nested(alloc: Global, spaces: usize, blocks: usize) -> Result<Vec<u8>, AllocError> {
+    let mut text = vec![in alloc; b' '; spaces]?;
+    text.extend_from_slice(b"program a; ")?;
+    for _i in 0..blocks {
+        text.extend_from_slice(b"begin ")?;
+    }
+    for _i in 0..blocks {
+        text.extend_from_slice(b"end ")?;
+    }
+    text.push(b'.')?;
+    Ok(text)
+}
+
+#[test]
+fn a_text_has_any_length_but_its_program_not_any_depth(rt: HostRuntime) -> Result<(), Fail> {
+    let cases = [
+        (1_000_000, 1, ACCEPTED),
+        (0, 126, ACCEPTED),
+        (0, 127, Err(Refusal::NotBuilt)),
+        (0, 90_000, Err(Refusal::NotBuilt)),
+    ];
+    for (spaces, blocks, wanted) in cases {
+        let text = nested(rt.alloc(), spaces, blocks)?;
+        let (answer, _) = loaded::<Brand>(rt.alloc(), &text, Blank::new(1))?;
+        assert_eq!(rt; answer, wanted, "{blocks}");
+    }
+    Ok(())
+}
+
+#[test]
+fn a_session_begins_with_a_hole(rt: HostRuntime) -> Result<(), Fail> {
+    let session = Session::new(rt.alloc())?;
+    assert_eq!(rt; session.count(), 0);
+    assert_eq!(rt; session.tree().kind(), Kind::Hole(Sort::Program));
+    assert_eq!(rt; session.tree().size(), 1);
+    Ok(())
+}
