@@ -172,16 +172,15 @@ module _ (p : Plain) (i : ℕ) (q : Plain) (l : i < length (kids_of p)) where
       omega (arith, s, depth_of-kids p)
 
   -- a kid of a proper tree is proper
-  pub proper-with_kid : IsWellFormed p → IsProper (with_kid p i q) → IsProper q
-  proper-with_kid sound h =
+  pub proper-with_kid : IsProper (with_kid p i q) → IsProper q
+  proper-with_kid h =
       let ks : List Plain = set (kids_of p) i q in
       let within : i < length ks = rw length-set l in
       let e : get_or ks i q ≡ q = get_or-set_same (kids_of p) i q q l in
       let deep : depth_of q ≤ largest (map depth_of ks) = rw e at (max_bounds (λ xs. largest (map depth_of xs)) depth_of refl (λ x xs. refl) ks i q within) in
       let small : size_of q ≤ sum_by size_of ks = rw e at (get_or-le-sum_by size_of ks i q within) in
-      let parts = parts-with_kid sound h.sound in
       record {
-        sound = parts.2;
+        sound = WellFormed-at ks i q within e (kids-sound p.kind p.word p.notes ks h.sound);
         shallow = omega (arith, h.shallow, deep, depth_of-node p.kind p.word p.notes ks);
         small = omega (arith, h.small, small, size_of-node p.kind p.word p.notes ks);
       }
@@ -212,8 +211,8 @@ module _ (p k : Plain) (i : ℕ) (is : List ℕ) (e : kid_at p i ≡ Some k) whe
   pub put-step : (q : Plain) → put (i ∷ is) p q ≡ with_kid p (i - 1) (put is k q)
   put-step q = rw e
 
-  pub proper-step : (q : Plain) → IsWellFormed p → IsProper (put (i ∷ is) p q) → IsProper (put is k q)
-  proper-step q sound h = proper-with_kid p (i - 1) (put is k q) (kid_below p k i e) sound (rw (put-step q) at h)
+  pub proper-step : (q : Plain) → IsProper (put (i ∷ is) p q) → IsProper (put is k q)
+  proper-step q h = proper-with_kid p (i - 1) (put is k q) (kid_below p k i e) (rw (put-step q) at h)
 
 -- the loop of `deepest_with`
 module _ (ts : List Plain) (i depth j : ℕ) (l : j < length ts) where

@@ -97,7 +97,7 @@ module _ (p k q : Plain) (i : ℕ) (l : i < length (kids_of p)) (kid : get_or (k
   }
 
 -- lists
-opens-list : (k : Kind) (b : Bool) → is_list k ≡ true → opens k b ≡ false
+pub opens-list : (k : Kind) (b : Bool) → is_list k ≡ true → opens k b ≡ false
 opens-list If b e = cc
 opens-list Ifelse b e = cc
 opens-list While b e = cc
@@ -105,7 +105,7 @@ opens-list For b e = cc
 opens-list With b e = cc
 opens-list _ b e = refl
 
-apart-list : (k : Kind) (ks : List Plain) → is_list k ≡ true → breaks_else_rule k (forest_of ks) ≡ false
+pub apart-list : (k : Kind) (ks : List Plain) → is_list k ≡ true → breaks_else_rule k (forest_of ks) ≡ false
 apart-list Ifelse ks e = cc
 apart-list _ ks e = refl
 
@@ -125,7 +125,7 @@ wordless-list Name e = cc
 wordless-list _ e = refl
 
 module _ (k : Kind) (list : is_list k ≡ true) where
-  shift : (n : ℕ) (ks : List Plain) → takes_from k (suc n) (kinds_of ks) ≡ takes_from k n (kinds_of ks)
+  pub shift : (n : ℕ) (ks : List Plain) → takes_from k (suc n) (kinds_of ks) ≡ takes_from k n (kinds_of ks)
   shift n [] = refl
   shift n (p ∷ ps) =
       let e : class_from k (suc n) ≡ class_from k n = rw list refl in
@@ -147,7 +147,7 @@ WellFormed-remove [] (suc i) h = h
 WellFormed-remove (k ∷ ks) zero h = h.4
 WellFormed-remove (k ∷ ks) (suc i) h = (h.0, h.1, h.2, h.3, WellFormed-remove ks i h.4)
 
-takes_notes-fewer : (k : Kind) (m n : ℕ) (ns : List (List ℕ)) → 1 ≤ m → 1 ≤ n → takes_notes k n ns ≡ true → takes_notes k m ns ≡ true
+pub takes_notes-fewer : (k : Kind) (m n : ℕ) (ns : List (List ℕ)) → 1 ≤ m → 1 ≤ n → takes_notes k n ns ≡ true → takes_notes k m ns ≡ true
 takes_notes-fewer k m n [] a b h = refl
 takes_notes-fewer k zero n (c ∷ cs) a b h = absurd (omega arith)
 takes_notes-fewer k (suc m) zero (c ∷ cs) a b h = absurd (omega arith)
@@ -292,7 +292,7 @@ cut-step p k i [] e l = absurd (omega arith)
 cut-step p k i (j ∷ js) e l = rw e refl
 
 -- the tree without a node that isn't its root
-kid_there : (p : Plain) (i : ℕ) (is : List ℕ) (o : Option Plain) → kid_at p i ≡ o → IsSome (option_and_then (at is) o) → (k : Plain) × (kid_at p i ≡ Some k) × IsSome (at is k)
+pub kid_there : (p : Plain) (i : ℕ) (is : List ℕ) (o : Option Plain) → kid_at p i ≡ o → IsSome (option_and_then (at is) o) → (k : Plain) × (kid_at p i ≡ Some k) × IsSome (at is k)
 kid_there p i is None e there = cc
 kid_there p i is (Some k) e there = (k, e, there)
 

@@ -3,7 +3,7 @@ use Rattle.std.proofs.Common.{◌≡◌, ℕ, ◌+◌, ◌-◌, ◌*◌, ◌^◌
 use Rattle.std.proofs.lemmas.Bool.{lt-leb, le-leb, leb-false}
 use Rattle.std.proofs.Math.Bool.{and-false}
 use Rattle.pc_syntax.specs.Words.{value_after, numeral_value, numeral_limit, numeral_limit-is}
-use Rattle.pc_syntax.specs.Paths.{step_of}
+use Rattle.pc_syntax.specs.Paths.{step_of, element_number}
 
 -- digits make a number no smaller
 value_least : (n : ℕ) (xs : List ℕ) → n ≤ value_after n xs
@@ -37,3 +37,8 @@ pub step_of-over : (word : List ℕ) → numeral_value word ≡ None → step_of
 unfolding step_of
 step_of-over [] over = refl
 step_of-over (b ∷ bs) over = rw (over_step (value_after 0 (b ∷ bs)) _ refl over, and-false) refl
+
+-- neither is it the number of an element
+pub element_number-over : (word : List ℕ) → numeral_value word ≡ None → element_number word ≡ None
+unfolding element_number
+element_number-over word over = rw (over_step (value_after 0 word) _ refl over, and-false) refl

@@ -14,8 +14,8 @@ use Rattle.pc_syntax.specs.Outline.{IsOutline}
 use Rattle.pc_syntax.proofs.Changed.{largest-set, depth_of-kid-le, size_of-kid-le, size_of-with_kid, depth_of-with_kid, is_open-with_kid, sound-with_kid, parts-with_kid}
 
 -- how deep the tree gets
-pub depth-with_kid : (p : Plain) (i : ℕ) (k : Plain) (depth : ℕ) → slice_get (kids_of p) i ≡ Some k → depth ≤ depth_of k + 256 →
-    1 + largest (set (map depth_of (kids_of p)) i depth) ≤ depth_of p + 256
+pub depth-with_kid : (p : Plain) (i : ℕ) (k : Plain) (depth : ℕ) → slice_get (kids_of p) i ≡ Some k → depth ≤ depth_of k + 257 →
+    1 + largest (set (map depth_of (kids_of p)) i depth) ≤ depth_of p + 257
 depth-with_kid p i k depth kid shallow =
     let l = slice_get_within (kids_of p) i k kid in
     let is = get_or_from_slice_get (kids_of p) i k k kid in

@@ -1,5 +1,5 @@
--- What putting and cutting a node answer.
-use Rattle.std.specs.Prelude.{◌≡◌, ℕ, ◌-◌, Bool, not, ◌&&◌, nat_lt, nat_le, if◌then◌else◌, List, [], ◌∷◌, Result, Ok, Err, MatchOption, MatchBool, length, remove}
+-- What putting, adding and cutting a node answer.
+use Rattle.std.specs.Prelude.{◌≡◌, ℕ, ◌-◌, Bool, not, ◌&&◌, nat_lt, nat_le, if◌then◌else◌, List, [], ◌∷◌, Result, Ok, Err, MatchOption, MatchBool, ◌+◌, length, insert, remove}
 use Rattle.std.specs.Option.{option_map_or}
 use Rattle.pc_syntax.specs.declared.kind.Kind.{Kind}
 use Rattle.pc_syntax.specs.declared.class.Class.TheVariants as class
@@ -22,6 +22,19 @@ gives_way (i ∷ is) before after = not (is_list before)
 abbrev pub PutAnswers : Plain → List ℕ → Plain → Result Plain EditError → Type 0
 PutAnswers p path piece result =
     MatchOption (at path p) (result ≡ Err NoPlace) (λ old. MatchBool (gives_way path old.kind piece.kind) (Answers (put path p piece) result) (result ≡ Err NotFit))
+
+-- a list with one more element at a place, counted from 0
+abbrev pub with_more : Plain → ℕ → Plain → Plain
+with_more p i q = node p.kind p.word p.notes (insert (kids_of p) i q)
+
+-- whether an element with this number, from 1, can come to a node: that is a list, and the number is at most one more than its length
+abbrev pub has_room : Plain → ℕ → Bool
+has_room p k = is_list p.kind && (nat_le 1 k && nat_le k (length (kids_of p) + 1))
+
+-- what adding a piece as element k of the list at a path answers: there is no such place, or the new tree decides
+abbrev pub AddAnswers : Plain → List ℕ → ℕ → Plain → Result Plain EditError → Type 0
+AddAnswers p path k piece result =
+    MatchOption (at path p) (result ≡ Err NoPlace) (λ list. MatchBool (has_room list k) (Answers (put path p (with_more list (k - 1) piece)) result) (result ≡ Err NoPlace))
 
 -- a list without the element at a place, counted from 0; one that becomes empty loses its notes
 abbrev pub without_kid : Plain → ℕ → Plain

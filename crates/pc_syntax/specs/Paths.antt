@@ -1,4 +1,4 @@
--- Paths of nodes and keys of routines, as words.
+-- Paths of nodes, numbers of elements and keys of routines, as words.
 use Rattle.std.specs.Prelude.{◌≡◌, ◌⊎◌, ℕ, Bool, ◌&&◌, ◌==◌, if◌then◌else◌, nat_le, List, [], ◌∷◌, length, Option, Some, None, Result, Err}
 use Rattle.std.specs.List.{slice_split, list_all}
 use Rattle.std.specs.Option.{option_and_then, ok_or}
@@ -22,6 +22,11 @@ unfoldable pub step_of : List ℕ → Option ℕ
 step_of [] = None
 step_of (b ∷ bs) =
     if nat_le 49 b && nat_le b 57 && list_all is_digit bs && nat_le (value_after 0 (b ∷ bs)) 4294967295 then Some (value_after 0 (b ∷ bs)) else None
+
+-- the number of an element: a numeral from 1 to 4294967295, which may have leading zeros
+unfoldable pub element_number : List ℕ → Option ℕ
+element_number word =
+    if list_all is_digit word && nat_le 1 (value_after 0 word) && nat_le (value_after 0 word) 4294967295 then Some (value_after 0 word) else None
 
 -- a step and then more steps, where all are there
 abbrev pub step_and : Option ℕ → Option (List ℕ) → Option (List ℕ)

@@ -1,4 +1,4 @@
-//! Tests of putting, cutting and templates.
+//! Tests of putting, adding, cutting and templates.
 
 use crate::error::EditError;
 use crate::kind::Kind;
@@ -64,6 +64,71 @@ fn a_program_is_put_together_and_taken_apart(rt: HostRuntime) -> Result<(), Fail
             Err(error) => Err(error),
         };
         assert_eq!(rt; got, *expected, "{path:?} {name:?}");
+    }
+    Ok(())
+}
+
+/// The tree with the template of this name as element `k` of the list at the path.
+fn added(alloc: Global, tree: &Tree, path: &[u8], k: u32, name: &[u8]) -> Result<Tree, EditError> {
+    let (Ok(path), Ok(Some(piece))) = (Path::read(alloc, path), template(alloc, name)) else {
+        return Err(EditError::NoMemory);
+    };
+    tree.add(alloc, &path, k, &piece)
+}
+
+#[test]
+fn elements_are_added_to_lists(rt: HostRuntime) -> Result<(), Fail> {
+    let unfit = EditError::NotFit;
+    let no_place = EditError::NoPlace;
+    let steps: [(&[u8], u32, &[u8], Result<(u32, u32, u64), EditError>); 13] = [
+        (b"/", 1, b"?name", Err(no_place)),
+        (b"/1", 1, b"?name", Err(no_place)),
+        (b"/9", 1, b"?name", Err(no_place)),
+        (b"/2", 0, b"?name", Err(no_place)),
+        (b"/2", 2, b"?name", Err(no_place)),
+        (b"/2", 4_294_967_295, b"?name", Err(no_place)),
+        (b"/2", 1, b"?statement", Err(unfit)),
+        (b"/2", 2, b"?statement", Err(no_place)),
+        (b"/2", 1, b"?name", Ok((1, 3, 3))),
+        (b"/2", 1, b"?name", Ok((2, 3, 4))),
+        (b"/2", 3, b"?name", Ok((3, 3, 5))),
+        (b"/2", 5, b"?name", Err(no_place)),
+        (b"/2/1", 1, b"?name", Err(no_place)),
+    ];
+    let hole = hole(rt.alloc(), Sort::Program)?;
+    let mut tree = changed(rt.alloc(), &hole, b"/", b"program")?;
+    for (path, k, name, expected) in &steps {
+        let got = match added(rt.alloc(), &tree, path, *k, name) {
+            Ok(new) => {
+                tree = new;
+                let heads = tree.kid(2).map(|heads| heads.kids());
+                Ok((heads.unwrap_or(0), tree.depth(), tree.holes()))
+            }
+            Err(error) => Err(error),
+        };
+        assert_eq!(rt; got, *expected, "{path:?} {k} {name:?}");
+    }
+    Ok(())
+}
+
+#[test]
+fn an_element_stands_at_its_number(rt: HostRuntime) -> Result<(), Fail> {
+    let cases: [(u32, [bool; 3]); 3] = [
+        (1, [true, false, false]),
+        (2, [false, true, false]),
+        (3, [false, false, true]),
+    ];
+    let two = variables(rt.alloc(), 2)?;
+    for (k, wanted) in cases {
+        let three = added(rt.alloc(), &two, b"/", k, b"vardef")?;
+        for (i, is_new) in wanted.iter().enumerate() {
+            let is_there = three
+                .kid_slice()
+                .get(i)
+                .is_some_and(|kid| kid.kind().is(Kind::Vardef));
+            assert_eq!(rt; is_there, *is_new, "{k}");
+        }
+        assert_eq!(rt; (three.kids(), three.notes().len()), (3, 1), "{k}");
     }
     Ok(())
 }
@@ -172,6 +237,10 @@ fn the_numbers_of_a_refusal_are_those_of_the_whole_tree(rt: HostRuntime) -> Resu
     let larger = last_answer(alloc, &[(b"/3/5", &body), (b"/3/5/1/1/1/1", &block)]);
     assert_eq!(rt; large, Ok(999_010));
     assert_eq!(rt; larger, Err(EditError::TooLarge(1_000_009)));
+    let path = Path::root(alloc);
+    let nested = many(alloc, Kind::Stmts, &nested(alloc, 255)?, 1)?;
+    let tall = nested.add(alloc, &path, 1, &leaf(alloc, Kind::Empty)?);
+    assert_eq!(rt; tall.map(|tree| tree.depth()), Ok(256));
     Ok(())
 }
 

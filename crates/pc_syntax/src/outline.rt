@@ -1,13 +1,14 @@
 //! Outlines: what decides whether a tree may be made, before any of its nodes is.
 
-ghost use Rattle.std.specs.Prelude.{◌≡◌, ℕ, ◌+◌, ◌≤◌, ◌<◌, ◌&&◌, not, None, Some, IfSome, IsSomeAnd, MatchOption, slice_get, slice_set, map, length};
+ghost use Rattle.std.specs.Prelude.{◌≡◌, ℕ, ◌+◌, ◌≤◌, ◌<◌, ◌&&◌, not, true, None, Some, IfSome, IsSomeAnd, MatchOption, slice_get, slice_set, map, length};
 ghost use Rattle.pc_syntax.specs.Plain.{Plain, kids_of, forest_of};
 ghost use Rattle.pc_syntax.specs.WellFormed.{size_of, depth_of, last_open, IsProper};
 ghost use Rattle.pc_syntax.specs.Parts.{largest, is_open};
-ghost use Rattle.pc_syntax.specs.Slots.{class_from};
+ghost use Rattle.pc_syntax.specs.Slots.{is_list, class_from};
 ghost use Rattle.pc_syntax.specs.Fits.{takes};
 ghost use Rattle.pc_syntax.specs.Make.{Admits};
 ghost use Rattle.pc_syntax.specs.Places.{at, with_kid, put};
+ghost use Rattle.pc_syntax.specs.Edits.{with_more};
 ghost use Rattle.pc_syntax.specs.Opening.{breaks_else_rule_at};
 
 use crate::error::EditError;
@@ -58,13 +59,30 @@ impl Outline {
         }
     }
 
+    /// The outline of a list with a piece as another element, wherever that stands.
+    pub fn with_more(list: &Tree, piece: &Tree) -> Outline
+        requires { is_list list.now.kind ≡ true }
+        ensures outline { (i : ℕ) → i ≤ length (kids_of list.now) → IsOutline result (with_more list.now i piece.now) }
+        ensures shallow { result.depth ≤ 257 }
+        ensures small { result.size ≤ 2000000 }
+    {
+        let kind = list.kind();
+        Outline {
+            kind,
+            fits: takes(kind.class_from(0), piece.kind()),
+            is_open: false,
+            depth: list.depth().max(piece.depth() + 1),
+            size: list.size() + piece.size(),
+        }
+    }
+
     /// The outline of a tree with another node at a path, which has this outline, if there is such a node.
     pub fn of_put(tree: &Tree, steps: &[u32], new: Outline) -> Option<Outline>
-        requires shallow { new.depth ≤ 256 }
-        requires small { new.size ≤ 1000000 }
+        requires shallow { new.depth ≤ 257 }
+        requires small { new.size ≤ 2000000 }
         ensures outline { (q : Plain) → IsOutline new q → MatchOption (at steps.now tree.now) (result ≡ None) (λ _. IsSomeAnd result (λ o. IsOutline o (put steps.now tree.now q))) }
-        ensures shallow { IfSome result (λ o. o.depth ≤ depth_of tree.now + 256) }
-        ensures small { IfSome result (λ o. o.size ≤ size_of tree.now + 1000000) }
+        ensures shallow { IfSome result (λ o. o.depth ≤ depth_of tree.now + 257) }
+        ensures small { IfSome result (λ o. o.size ≤ size_of tree.now + 2000000) }
     {
         let Some((step, rest)) = steps.split_first() else {
             return Some(new);
@@ -77,11 +95,11 @@ impl Outline {
     /// The outline of a tree with another kid at `i`, counted from 0, which has this outline.
     fn with_kid(tree: &Tree, i: usize, kid: &Tree, new: Outline) -> Outline
         requires is_kid { slice_get (kids_of tree.now) i ≡ Some kid.now }
-        requires shallow { new.depth ≤ depth_of kid.now + 256 }
-        requires small { new.size ≤ size_of kid.now + 1000000 }
+        requires shallow { new.depth ≤ depth_of kid.now + 257 }
+        requires small { new.size ≤ size_of kid.now + 2000000 }
         ensures outline { (q : Plain) → IsOutline new q → IsOutline result (with_kid tree.now i q) }
-        ensures shallow { result.depth ≤ depth_of tree.now + 256 }
-        ensures small { result.size ≤ size_of tree.now + 1000000 }
+        ensures shallow { result.depth ≤ depth_of tree.now + 257 }
+        ensures small { result.size ≤ size_of tree.now + 2000000 }
     {
         let kind = tree.kind();
         Outline {

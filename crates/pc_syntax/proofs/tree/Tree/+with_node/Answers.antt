@@ -16,7 +16,7 @@ with_node-requires t c =
     let kid : kid_at p i ≡ Some k = sym c.in-Some-kid.ensures.value in
     let place : IsSome (at (i ∷ is) p) = rw steps.0 at c.requires.place in
     let proper : IsProper (put (i ∷ is) p c.args.piece) = rw steps.0 at c.requires.proper in
-    (omega (arith, steps.1, c.decreases), (rw (at-step p k i is kid) at place, proper-step p k i is kid c.args.piece c.in-Some-kid.ensures.proper.sound proper))
+    (omega (arith, steps.1, c.decreases), (rw (at-step p k i is kid) at place, proper-step p k i is kid c.args.piece proper))
 
 pub with_kid-requires-clause-in_bounds : goal.with_kid-requires-clause-in_bounds
 with_kid-requires-clause-in_bounds t c = kid_below c.args.self.now c.in-Some-kid.kid.now c.in-Some.step.now (sym c.in-Some-kid.ensures.value)
