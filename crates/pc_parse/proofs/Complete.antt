@@ -1,6 +1,6 @@
 -- Each readable tree of a class is read from its symbols, so no two have the same symbols, and symbols that are refused
 -- are those of none.
-use Rattle.std.proofs.Common.{◌≡◌, ℕ, zero, suc, ◌+◌, Bool, true, false, ◌&&◌, List, [], ◌++◌, None, refl, ap, sym, ◌∙◌, append-nil, suc-add, add_comm}
+use Rattle.std.proofs.Common.{◌≡◌, ℕ, zero, suc, ◌+◌, Bool, true, false, List, [], ◌++◌, None, refl, ap, sym, ◌∙◌, append-nil, suc-add, add_comm}
 use Rattle.pc_syntax.specs.declared.kind.Kind.{Kind}
 use Rattle.pc_syntax.specs.declared.kind.Kind.TheVariants as kind
 use Rattle.pc_syntax.specs.declared.class.Class.{Class}
@@ -14,8 +14,7 @@ use Rattle.pc_syntax.specs.WellFormed.{fits_some, breaks_else_rule}
 use Rattle.pc_parse.specs.Reading.{lay, Good, class_of, Reads}
 use Rattle.pc_parse.specs.Machine.{State, Opening, Holding}
 use Rattle.pc_parse.specs.Runs.{Step, Go, Accept, Refuse, step, continue, exec}
-use Rattle.pc_parse.proofs.Entries.{each, implies, implies_true, &&_join, all_kinds, at_kind}
-use Rattle.pc_parse.proofs.Follows.{known, known_of, readable_of, follow, corner_of, tail_after, give_after}
+use Rattle.pc_parse.proofs.Follows.{known_of, readable_of, follow, corner_of, tail_after, give_after}
 use Rattle.pc_parse.proofs.Leading.{Leads}
 use Rattle.pc_parse.proofs.Simulates.{bare, Found, AllRead}
 use Rattle.pc_parse.proofs.Nodes.{true-false}
@@ -29,9 +28,21 @@ node : (k : Kind) (w : List ℕ) (ks : Forest) → fits_some (lay k w (count ks)
 node kind.Program w ks fit rule all = declarations.program w ks fit all
 node kind.Block w ks fit rule all = declarations.block w ks fit all
 node kind.Forward w ks fit rule all = declarations.forward w ks fit all
+node kind.Constdef w ks fit rule all = declarations.constdef w ks fit all
+node kind.Typedef w ks fit rule all = declarations.typedef w ks fit all
 node kind.Vardef w ks fit rule all = declarations.vardef w ks fit all
 node kind.Tname w ks fit rule all = declarations.tname w ks fit all
 node kind.Enum w ks fit rule all = declarations.enum w ks fit all
+node kind.Subrange w ks fit rule all = declarations.subrange w ks fit all
+node kind.Array w ks fit rule all = declarations.array w ks fit all
+node kind.Setof w ks fit rule all = declarations.set_of w ks fit all
+node kind.Packed w ks fit rule all = declarations.packed w ks fit all
+node kind.Pointer w ks fit rule all = declarations.pointer w ks fit all
+node kind.Indexes w ks fit rule all = declarations.indexes w ks fit all
+node kind.Cnumber w ks fit rule all = declarations.cnumber w ks fit all
+node kind.Cstring w ks fit rule all = declarations.cstring w ks fit all
+node kind.Cname w ks fit rule all = declarations.cname w ks fit all
+node kind.Csign w ks fit rule all = declarations.csign w ks fit all
 node kind.Heads w ks fit rule all = declarations.heads w ks fit all
 node kind.Names w ks fit rule all = declarations.names w ks fit all
 node kind.Consts w ks fit rule all = declarations.consts w ks fit all
@@ -44,22 +55,34 @@ node kind.Proc w ks fit rule all = statements.proc w ks fit all
 node kind.Compound w ks fit rule all = statements.compound w ks fit all
 node kind.If w ks fit rule all = statements.if_then w ks fit all
 node kind.Ifelse w ks fit rule all = statements.if_else w ks fit rule all
+node kind.Repeat w ks fit rule all = statements.repeat_until w ks fit all
 node kind.While w ks fit rule all = statements.while_loop w ks fit all
+node kind.For w ks fit rule all = statements.for_loop w ks fit all
+node kind.With w ks fit rule all = statements.with_do w ks fit all
 node kind.Args w ks fit rule all = statements.args w ks fit all
 node kind.Stmts w ks fit rule all = statements.stmts w ks fit all
 node kind.Ref w ks fit rule all = expressions.ref w ks fit all
 node kind.Index w ks fit rule all = expressions.index w ks fit all
 node kind.Select w ks fit rule all = expressions.select w ks fit all
+node kind.Deref w ks fit rule all = expressions.deref w ks fit all
 node kind.Number w ks fit rule all = expressions.number w ks fit all
+node kind.Text w ks fit rule all = expressions.text w ks fit all
+node kind.Nil w ks fit rule all = expressions.nil w ks fit all
+node kind.Not w ks fit rule all = expressions.negation w ks fit all
 node kind.Call w ks fit rule all = expressions.call w ks fit all
 node kind.Parens w ks fit rule all = expressions.parens w ks fit all
+node kind.Setcon w ks fit rule all = expressions.setcon w ks fit all
 node kind.Mul w ks fit rule all = expressions.mul w ks fit all
 node kind.Add w ks fit rule all = expressions.add w ks fit all
 node kind.Sign w ks fit rule all = expressions.sign w ks fit all
 node kind.Rel w ks fit rule all = expressions.rel w ks fit all
 node kind.Width w ks fit rule all = expressions.width w ks fit all
+node kind.Span w ks fit rule all = expressions.span w ks fit all
 node kind.Name w ks fit rule all = expressions.name w ks fit all
 node kind.Exprs w ks fit rule all = expressions.exprs w ks fit all
+node kind.Accesses w ks fit rule all = expressions.accesses w ks fit all
+node kind.Members w ks fit rule all = expressions.members w ks fit all
+node (kind.Hole r) w ks fit rule all = statements.hole r w ks fit all
 node _ w ks fit rule all = true-false (sym fit)
 
 -- every readable tree is read
@@ -79,13 +102,20 @@ leads_whole c k w ns ks ends member good =
     let all = all_read (Cons k w ns ks Nil) good in
     drop_nil _ _ _ _ _ (all.3 c c Opening [] [] [] refl refl (corner_of c k None member ends) (tail_after c k None member ends) (record { closed = λ e. cc }))
 
--- the classes of the sorts of which a tree can be read
+-- the classes of the sorts
 abbrev pub is_root : Class → Bool
 is_root class.Program = true
 is_root class.Block = true
+is_root class.Constdef = true
+is_root class.Typedef = true
 is_root class.Vardef = true
+is_root class.Routine = true
+is_root class.Parameter = true
 is_root class.Denoter = true
+is_root class.Field = true
+is_root class.Constant = true
 is_root class.Statement = true
+is_root class.Arm = true
 is_root class.Argument = true
 is_root class.Name = true
 is_root _ = false
@@ -145,37 +175,17 @@ unfit c n t ys zs sort h i =
     let a = complete c t ys sort i in
     refused t zs (ends_alike c a.0 n Opening ys (Accept t) (Refuse zs) refl refl a.1 h)
 
-abbrev unread_class : Class → Bool
-unread_class c = each (λ k. implies (has c k && known k) false) all_kinds
-
-unread : (c : Class) (t : Plain) (ys : List Sym) → unread_class c ≡ true → Reads c t ys → ⊥
-unread c t ys test h =
-    let knowing : known t.kind ≡ true = known_of t.kind (count t.kids) (readable_of t.kind t.word (count t.kids) (kinds t.kids) h.good.0) in
-    true-false (sym (implies_true _ _ (at_kind (λ k. implies (has c k && known k) false) t.kind test) (&&_join _ _ h.member knowing)))
-
--- a sort of which there are readable trees
-pub root_of_sort : (s : Sort) (t : Plain) (ys : List Sym) → Reads (class_of s) t ys → is_root (class_of s) ≡ true
-root_of_sort sort.Program t ys h = refl
-root_of_sort sort.Block t ys h = refl
-root_of_sort sort.ConstDef t ys h = absurd (unread class.Constdef t ys refl h)
-root_of_sort sort.TypeDef t ys h = absurd (unread class.Typedef t ys refl h)
-root_of_sort sort.VarDef t ys h = refl
-root_of_sort sort.Routine t ys h = absurd (unread class.Routine t ys refl h)
-root_of_sort sort.Parameter t ys h = absurd (unread class.Parameter t ys refl h)
-root_of_sort sort.Denoter t ys h = refl
-root_of_sort sort.Field t ys h = absurd (unread class.Field t ys refl h)
-root_of_sort sort.Constant t ys h = absurd (unread class.Constant t ys refl h)
-root_of_sort sort.Statement t ys h = refl
-root_of_sort sort.Arm t ys h = absurd (unread class.Arm t ys refl h)
-root_of_sort sort.Expression t ys h = refl
-root_of_sort sort.Name t ys h = refl
+-- the class of each sort
+pub root_of_sort : (s : Sort) → is_root (class_of s) ≡ true
+root_of_sort sort.Program = refl
+root_of_sort _ = refl
 
 -- the same for sorts
 pub complete_sort : (s : Sort) (t : Plain) (ys : List Sym) → Reads (class_of s) t ys → (n : ℕ) × (exec (class_of s) n Opening ys ≡ Accept t)
-complete_sort s t ys h = complete (class_of s) t ys (root_of_sort s t ys h) h
+complete_sort s t ys h = complete (class_of s) t ys (root_of_sort s) h
 
 pub unique_sort : (s : Sort) (t u : Plain) (ys : List Sym) → Reads (class_of s) t ys → Reads (class_of s) u ys → t ≡ u
-unique_sort s t u ys h i = unique (class_of s) t u ys (root_of_sort s t ys h) h i
+unique_sort s t u ys h i = unique (class_of s) t u ys (root_of_sort s) h i
 
 pub unfit_sort : (s : Sort) (n : ℕ) (t : Plain) (ys zs : List Sym) → exec (class_of s) n Opening ys ≡ Refuse zs → Reads (class_of s) t ys → ⊥
-unfit_sort s n t ys zs h i = unfit (class_of s) n t ys zs (root_of_sort s t ys i) h i
+unfit_sort s n t ys zs h i = unfit (class_of s) n t ys zs (root_of_sort s) h i

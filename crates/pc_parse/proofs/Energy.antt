@@ -66,8 +66,12 @@ grows_pay k c x =
 
 switches_pay : (k : Kind) (items : List Item) (x : Option Lexeme) → switch_pays x (switch k items x) ≡ true
 switches_pay kind.If [] (Some lexeme.KeyElse) = refl
+switches_pay kind.For (Literal lexeme.KeyTo ∷ m) (Some lexeme.KeyDownto) = refl
 switches_pay kind.Stmts [] (Some lexeme.Semicolon) = refl
+switches_pay kind.Indexes [] (Some lexeme.Comma) = refl
 switches_pay kind.Exprs [] (Some lexeme.Comma) = refl
+switches_pay kind.Accesses [] (Some lexeme.Comma) = refl
+switches_pay kind.Members [] (Some lexeme.Comma) = refl
 switches_pay kind.Names [] (Some lexeme.Comma) = refl
 switches_pay kind.Args (Literal lexeme.CloseParen ∷ []) (Some lexeme.Comma) = refl
 switches_pay kind.Heads (Literal lexeme.CloseParen ∷ []) (Some lexeme.Comma) = refl

@@ -4,6 +4,7 @@ use Rattle.pc_syntax.specs.declared.lexeme.Lexeme.{Lexeme}
 use Rattle.pc_syntax.specs.declared.lexeme.Lexeme.TheVariants as lexeme
 use Rattle.pc_syntax.specs.declared.kind.Kind.{Kind}
 use Rattle.pc_syntax.specs.declared.kind.Kind.TheVariants as kind
+use Rattle.pc_syntax.specs.declared.sort.Sort.TheVariants as sort
 use Rattle.pc_syntax.specs.declared.class.Class.{Class}
 use Rattle.pc_syntax.specs.declared.class.Class.TheVariants as class
 use Rattle.pc_syntax.specs.Classes.{has}
@@ -38,6 +39,7 @@ knows class.Denoter = true
 knows class.Statement = true
 knows class.Body = true
 knows class.Argument = true
+knows class.Member = true
 knows class.Expression = true
 knows class.Simple = true
 knows class.Term = true
@@ -48,11 +50,24 @@ knows class.Heads = true
 knows class.Args = true
 knows class.Names = true
 knows class.Exprs = true
+knows class.Accesses = true
+knows class.Members = true
 knows class.Consts = true
 knows class.Types = true
 knows class.Vars = true
 knows class.Routines = true
 knows class.Stmts = true
+knows class.Constdef = true
+knows class.Typedef = true
+knows class.Routine = true
+knows class.Parameter = true
+knows class.Field = true
+knows class.Constant = true
+knows class.Bare = true
+knows class.Structured = true
+knows class.Ordinal = true
+knows class.Indexes = true
+knows class.Arm = true
 knows _ = false
 
 -- the kinds that are held first where a node of another kind is awaited
@@ -62,12 +77,44 @@ precedes class.Statement kind.Name = true
 precedes class.Statement kind.Ref = true
 precedes class.Statement kind.Index = true
 precedes class.Statement kind.Select = true
+precedes class.Statement kind.Deref = true
 precedes class.Argument kind.Name = true
+precedes class.Member kind.Name = true
 precedes class.Expression kind.Name = true
 precedes class.Simple kind.Name = true
 precedes class.Term kind.Name = true
 precedes class.Factor kind.Name = true
 precedes class.Access kind.Name = true
+precedes class.Denoter (kind.Hole sort.Name) = true
+precedes class.Statement (kind.Hole sort.Name) = true
+precedes class.Argument (kind.Hole sort.Name) = true
+precedes class.Member (kind.Hole sort.Name) = true
+precedes class.Expression (kind.Hole sort.Name) = true
+precedes class.Simple (kind.Hole sort.Name) = true
+precedes class.Term (kind.Hole sort.Name) = true
+precedes class.Factor (kind.Hole sort.Name) = true
+precedes class.Access (kind.Hole sort.Name) = true
+precedes class.Statement (kind.Hole sort.Expression) = true
+precedes class.Constdef kind.Name = true
+precedes class.Constdef (kind.Hole sort.Name) = true
+precedes class.Constant kind.Name = true
+precedes class.Constant (kind.Hole sort.Name) = true
+precedes class.Bare kind.Name = true
+precedes class.Bare (kind.Hole sort.Name) = true
+precedes class.Typedef kind.Name = true
+precedes class.Typedef (kind.Hole sort.Name) = true
+precedes class.Ordinal kind.Name = true
+precedes class.Ordinal (kind.Hole sort.Name) = true
+precedes class.Denoter kind.Cnumber = true
+precedes class.Denoter kind.Cstring = true
+precedes class.Denoter kind.Cname = true
+precedes class.Denoter kind.Csign = true
+precedes class.Denoter (kind.Hole sort.Constant) = true
+precedes class.Ordinal kind.Cnumber = true
+precedes class.Ordinal kind.Cstring = true
+precedes class.Ordinal kind.Cname = true
+precedes class.Ordinal kind.Csign = true
+precedes class.Ordinal (kind.Hole sort.Constant) = true
 precedes _ _ = false
 
 -- the kinds that can stand finished where a node of the class is awaited
@@ -79,6 +126,7 @@ ends_statement None = true
 ends_statement (Some lexeme.Semicolon) = true
 ends_statement (Some lexeme.KeyEnd) = true
 ends_statement (Some lexeme.KeyElse) = true
+ends_statement (Some lexeme.KeyUntil) = true
 ends_statement _ = false
 
 abbrev pub ends_argument : Option Lexeme → Bool
@@ -90,10 +138,13 @@ ends_argument _ = false
 abbrev pub ends_expression : Option Lexeme → Bool
 ends_expression (Some lexeme.KeyThen) = true
 ends_expression (Some lexeme.KeyDo) = true
+ends_expression (Some lexeme.KeyTo) = true
+ends_expression (Some lexeme.KeyDownto) = true
 ends_expression (Some lexeme.CloseParen) = true
 ends_expression (Some lexeme.CloseBracket) = true
 ends_expression (Some lexeme.Comma) = true
 ends_expression (Some lexeme.Colon) = true
+ends_expression (Some lexeme.DotDot) = true
 ends_expression x = ends_statement x
 
 abbrev pub ends_term : Option Lexeme → Bool
@@ -112,28 +163,83 @@ ends_exprs (Some lexeme.CloseParen) = true
 ends_exprs (Some lexeme.CloseBracket) = true
 ends_exprs _ = false
 
+abbrev pub ends_access : Option Lexeme → Bool
+ends_access (Some lexeme.Comma) = true
+ends_access (Some lexeme.KeyDo) = true
+ends_access _ = false
+
+abbrev pub ends_accesses : Option Lexeme → Bool
+ends_accesses x = same_at lexeme.KeyDo x
+
+abbrev pub ends_member : Option Lexeme → Bool
+ends_member (Some lexeme.Comma) = true
+ends_member (Some lexeme.CloseBracket) = true
+ends_member _ = false
+
+abbrev pub ends_members : Option Lexeme → Bool
+ends_members x = same_at lexeme.CloseBracket x
+
 abbrev pub ends_heads : Option Lexeme → Bool
 ends_heads x = same_at lexeme.Semicolon x
 
+abbrev pub ends_consts : Option Lexeme → Bool
+ends_consts (Some lexeme.KeyType) = true
+ends_consts (Some lexeme.KeyVar) = true
+ends_consts (Some lexeme.KeyBegin) = true
+ends_consts (Some (lexeme.Hole sort.Statement)) = true
+ends_consts _ = false
+
+abbrev pub ends_types : Option Lexeme → Bool
+ends_types (Some lexeme.KeyVar) = true
+ends_types (Some lexeme.KeyBegin) = true
+ends_types (Some (lexeme.Hole sort.Statement)) = true
+ends_types _ = false
+
+abbrev pub ends_denoter : Option Lexeme → Bool
+ends_denoter None = true
+ends_denoter (Some lexeme.Semicolon) = true
+ends_denoter _ = false
+
+abbrev pub ends_ordinal : Option Lexeme → Bool
+ends_ordinal (Some lexeme.Comma) = true
+ends_ordinal (Some lexeme.CloseBracket) = true
+ends_ordinal x = ends_denoter x
+
+abbrev pub ends_indexes : Option Lexeme → Bool
+ends_indexes x = same_at lexeme.CloseBracket x
+
 abbrev pub ends_vars : Option Lexeme → Bool
-ends_vars x = same_at lexeme.KeyBegin x
+ends_vars (Some lexeme.KeyBegin) = true
+ends_vars (Some (lexeme.Hole sort.Statement)) = true
+ends_vars _ = false
 
 abbrev pub ends_stmts : Option Lexeme → Bool
-ends_stmts x = same_at lexeme.KeyEnd x
+ends_stmts (Some lexeme.KeyEnd) = true
+ends_stmts (Some lexeme.KeyUntil) = true
+ends_stmts _ = false
 
 -- the symbols that may follow a kid of the class
 abbrev pub follow : Class → Option Lexeme → Bool
-follow class.Access x = false
+follow class.Access x = ends_access x
 follow class.Factor x = ends_factor x
 follow class.Term x = ends_term x
 follow class.Simple x = ends_expression x
 follow class.Expression x = ends_expression x
 follow class.Argument x = ends_argument x
+follow class.Member x = ends_member x
 follow class.Statement x = ends_statement x
 follow class.Heads x = ends_heads x
 follow class.Args x = ends_statement x
 follow class.Names x = ends_names x
 follow class.Exprs x = ends_exprs x
+follow class.Accesses x = ends_accesses x
+follow class.Members x = ends_members x
+follow class.Denoter x = ends_denoter x
+follow class.Structured x = ends_denoter x
+follow class.Ordinal x = ends_ordinal x
+follow class.Indexes x = ends_indexes x
+follow class.Types x = ends_types x
+follow class.Consts x = ends_consts x
 follow class.Vars x = ends_vars x
 follow class.Stmts x = ends_stmts x
 follow c x = knows c
@@ -142,11 +248,17 @@ abbrev pub is_place : Option Lexeme → Bool
 is_place (Some lexeme.Becomes) = true
 is_place (Some lexeme.OpenBracket) = true
 is_place (Some lexeme.Dot) = true
+is_place (Some lexeme.Caret) = true
 is_place _ = false
 
 abbrev pub ref_tail : Class → Option Lexeme → Bool
 ref_tail class.Statement x = is_place x
 ref_tail c x = not (same_at lexeme.OpenParen x)
+
+abbrev pub is_bound : Class → Bool
+is_bound class.Denoter = true
+is_bound class.Ordinal = true
+is_bound _ = false
 
 -- the symbols that may follow a node of the kind where a node of the class is awaited
 abbrev pub tail : Class → Kind → Option Lexeme → Bool
@@ -155,17 +267,32 @@ tail c kind.Assign x = ends_expression x
 tail c kind.Proc x = ends_statement x
 tail c kind.If x = ends_statement x
 tail c kind.Ifelse x = ends_statement x
+tail c kind.Repeat x = ends_expression x
 tail c kind.While x = ends_statement x
+tail c kind.For x = ends_statement x
+tail c kind.With x = ends_statement x
 tail c kind.Ref x = ref_tail c x
+tail c kind.Not x = ends_factor x
 tail c kind.Mul x = ends_factor x
 tail c kind.Add x = ends_term x
 tail c kind.Sign x = ends_term x
 tail c kind.Rel x = ends_expression x
 tail c kind.Width x = ends_expression x
+tail c kind.Span x = ends_expression x
 tail c kind.Heads x = ends_heads x
 tail c kind.Args x = ends_statement x
 tail c kind.Names x = ends_names x
 tail c kind.Exprs x = ends_exprs x
+tail c kind.Accesses x = ends_accesses x
+tail c kind.Members x = ends_members x
+tail c kind.Tname x = not (same_at lexeme.DotDot x)
+tail c kind.Cname x = if is_bound c then same_at lexeme.DotDot x else true
+tail c kind.Array x = ends_denoter x
+tail c kind.Setof x = ends_ordinal x
+tail c kind.Packed x = ends_denoter x
+tail c kind.Indexes x = ends_indexes x
+tail c kind.Types x = ends_types x
+tail c kind.Consts x = ends_consts x
 tail c kind.Vars x = ends_vars x
 tail c kind.Stmts x = ends_stmts x
 tail c k x = true
@@ -178,8 +305,8 @@ plain_class c = knows c
 -- classes that any symbol may follow
 abbrev pub free : Class → Bool
 free class.Name = true
-free class.Consts = true
-free class.Types = true
+free class.Constdef = true
+free class.Typedef = true
 free class.Routines = true
 free class.Vardef = true
 free c = false
@@ -218,6 +345,15 @@ follow_knows class.Heads x h = refl
 follow_knows class.Args x h = refl
 follow_knows class.Names x h = refl
 follow_knows class.Exprs x h = refl
+follow_knows class.Accesses x h = refl
+follow_knows class.Member x h = refl
+follow_knows class.Members x h = refl
+follow_knows class.Denoter x h = refl
+follow_knows class.Structured x h = refl
+follow_knows class.Ordinal x h = refl
+follow_knows class.Indexes x h = refl
+follow_knows class.Types x h = refl
+follow_knows class.Consts x h = refl
 follow_knows class.Vars x h = refl
 follow_knows class.Stmts x h = refl
 follow_knows _ x h = h

@@ -1,5 +1,5 @@
 -- A tree without kids and notes is the leaf of its kind and word.
-use Rattle.std.proofs.Common.{◌≡◌, ℕ, List, [], sym, ◌∙◌}
+use Rattle.std.proofs.Common.{◌≡◌, ℕ, List, [], sym}
 use Rattle.pc_syntax.specs.declared.kind.Kind.{Kind}
 use Rattle.pc_syntax.specs.Plain.{Plain, node, kids_of}
 use Rattle.pc_syntax.specs.Parts.{node-parts}

@@ -19,7 +19,7 @@ use Rattle.pc_parse.proofs.Entries.{&&_split}
 use Rattle.pc_parse.proofs.Follows.{corner, follow, tail, plain_class, free, plain_closed, free_follow}
 use Rattle.pc_parse.proofs.TableTests.{same_look, Grows}
 use Rattle.pc_parse.proofs.Leading.{Leads, one, onward}
-use Rattle.pc_parse.proofs.Simulates.{bare, trees_back, Quiet, Begins, AllRead, Okay, Tracks, mark, halts, arrive, reads_items}
+use Rattle.pc_parse.proofs.Simulates.{bare, trees_back, Quiet, Begins, AllRead, Okay, Tracks, mark, kept_switch, halts, arrive, reads_items}
 
 -- whether the symbol isn't else
 abbrev pub not_else : Lexeme → Bool
@@ -62,7 +62,7 @@ quiet_before k ks y h = record { closed = λ e. true-false (sym h ∙ ap is_not_
     is_not_else : Option Lexeme → Bool
     is_not_else x = not (same_look x (Some lexeme.KeyElse))
 
-or_split : (a b : Bool) → a || b ≡ true → (a ≡ true) ⊎ (b ≡ true)
+pub or_split : (a b : Bool) → a || b ≡ true → (a ≡ true) ⊎ (b ≡ true)
 or_split true b h = inl refl
 or_split false b h = inr h
 
@@ -80,7 +80,7 @@ quiet_last c k ks x h last = go (either (plain_class c))
     go (inl p) = quiet_plain c k ks x h p
     go (inr p) = record { closed = λ i. last p i }
 
-last_open_after : (k : Kind) (w : List ℕ) (ns : List (List ℕ)) (ks ts : Forest) → last_open (Cons k w ns ks ts) ≡ false → last_open ts ≡ false
+pub last_open_after : (k : Kind) (w : List ℕ) (ns : List (List ℕ)) (ks ts : Forest) → last_open (Cons k w ns ks ts) ≡ false → last_open ts ≡ false
 last_open_after k w ns ks Nil h = refl
 last_open_after k w ns ks (Cons j v ms js ts) h = h
 
@@ -234,11 +234,11 @@ plain_further None c (suc n) close h = plain_further None c n close h
 plain_further (Some x) c (suc n) close h = plain_further (Some x) c n close h
 
 -- a list without an end mark, and one that ends in a mark, each with separators
-pub tracks_open : (k : Kind) (sep : Lexeme) (c : Class) (n : ℕ) → switch k [] (Some sep) ≡ Some (k, (Kid c ∷ [])) → Tracks k [] (further (Some sep) c n []) k []
+pub tracks_open : (k : Kind) (sep : Lexeme) (c : Class) (n : ℕ) → kept_switch (switch k [] (Some sep)) ≡ Some (k, (Kid c ∷ [])) → Tracks k [] (further (Some sep) c n []) k []
 tracks_open k sep c zero e = (refl, refl)
 tracks_open k sep c (suc n) e = rw e (refl, tracks_open k sep c n e)
 
-pub tracks_closed : (k : Kind) (sep y : Lexeme) (c : Class) (n : ℕ) → same y sep ≡ false → switch k (Literal y ∷ []) (Some sep) ≡ Some (k, (Kid c ∷ Literal y ∷ []))
+pub tracks_closed : (k : Kind) (sep y : Lexeme) (c : Class) (n : ℕ) → same y sep ≡ false → kept_switch (switch k (Literal y ∷ []) (Some sep)) ≡ Some (k, (Kid c ∷ Literal y ∷ []))
     → Tracks k (Literal y ∷ []) (further (Some sep) c n (Literal y ∷ [])) k []
 tracks_closed k sep y c zero d e = rw (same_refl y) (refl, refl)
 tracks_closed k sep y c (suc n) d e = rw (d, e) (refl, tracks_closed k sep y c n d e)

@@ -1,9 +1,10 @@
 -- The machine reads the symbols of a node, item after item.
-use Rattle.std.proofs.Common.{◌≡◌, ℕ, Bool, true, false, ◌&&◌, ◌||◌, if◌then◌else◌, List, [], ◌∷◌, ◌++◌, Option, Some, None, refl, ap, ◌∙◌, append_assoc, append-nil}
+use Rattle.std.proofs.Common.{◌≡◌, ℕ, Bool, true, false, not, ◌&&◌, ◌||◌, if◌then◌else◌, List, [], ◌∷◌, ◌++◌, Option, Some, None, refl, ap, sym, ◌∙◌, append_assoc, append-nil}
 use Rattle.pc_syntax.specs.declared.lexeme.Lexeme.{Lexeme}
 use Rattle.pc_syntax.specs.declared.lexeme.Lexeme.TheVariants as lexeme
 use Rattle.pc_syntax.specs.declared.kind.Kind.{Kind}
 use Rattle.pc_syntax.specs.declared.kind.Kind.TheVariants as kind
+use Rattle.pc_syntax.specs.declared.sort.Sort.TheVariants as sort
 use Rattle.pc_syntax.specs.declared.class.Class.{Class}
 use Rattle.pc_syntax.specs.declared.item.Item.{Item}
 use Rattle.pc_syntax.specs.declared.item.Item.TheVariants.{Literal, Word, Kid}
@@ -12,7 +13,7 @@ use Rattle.pc_syntax.specs.Classes.{has}
 use Rattle.pc_syntax.specs.Symbols.{Sym, fill, texts, symbols}
 use Rattle.pc_syntax.specs.WellFormed.{fits, opens, last_open}
 use Rattle.pc_parse.specs.Lookahead.{same, look, word_at}
-use Rattle.pc_parse.specs.Tables.{start, switch, again}
+use Rattle.pc_parse.specs.Tables.{start, switch, turned_word, again}
 use Rattle.pc_parse.specs.Machine.{Frame, frame, State, Reading, Holding, on_start, on_switch, on_again, awaited_by}
 use Rattle.pc_parse.specs.Runs.{make_plain, Go, apply, step}
 use Rattle.pc_parse.proofs.Entries.{each, implies, implies_true, &&_split, all_lookaheads, all_kinds, at_kind, at_lookahead, &&_join}
@@ -43,17 +44,47 @@ Found k w ks =
     → Begins root st c fs (symbols k w ks ++ rest) → awaited_by root fs ≡ Some (c, m) → corner c k ≡ true → tail c k (look rest) ≡ true → Quiet k ks (look rest)
     → Leads root st (symbols k w ks ++ rest) (Holding k (bare k w ks) fs) rest
 
+-- whether the symbol isn't that which closes a set
+abbrev pub is_in_set : Option Lexeme → Bool
+is_in_set x = not (same_look x (Some lexeme.CloseBracket))
+
+-- whether the symbol begins a name, or the body of a block
+abbrev pub begins_name : Option Lexeme → Bool
+begins_name x = same_look x (Some lexeme.Identifier) || same_look x (Some (lexeme.Hole sort.Name))
+
+abbrev pub begins_body : Option Lexeme → Bool
+begins_body x = same_look x (Some lexeme.KeyBegin) || same_look x (Some (lexeme.Hole sort.Statement))
+
 -- whether a node of the kind before the symbol s may begin with x, or be blank and x be s; said only where it matters
 abbrev pub first : Kind → Option Lexeme → Option Lexeme → Bool
 first kind.Name s x = same_look x (Some lexeme.Identifier)
-first kind.Names s x = same_look x (Some lexeme.Identifier)
-first kind.Vardef s x = same_look x (Some lexeme.Identifier)
+first kind.Ref s x = is_in_set x
+first kind.Index s x = is_in_set x
+first kind.Select s x = is_in_set x
+first kind.Deref s x = is_in_set x
+first kind.Number s x = is_in_set x
+first kind.Text s x = is_in_set x
+first kind.Nil s x = is_in_set x
+first kind.Call s x = is_in_set x
+first kind.Parens s x = is_in_set x
+first kind.Not s x = is_in_set x
+first kind.Setcon s x = is_in_set x
+first kind.Mul s x = is_in_set x
+first kind.Add s x = is_in_set x
+first kind.Sign s x = is_in_set x
+first kind.Rel s x = is_in_set x
+first kind.Span s x = is_in_set x
+first kind.Names s x = begins_name x
+first kind.Vardef s x = begins_name x
 first kind.Compound s x = same_look x (Some lexeme.KeyBegin)
 first kind.Vars s x = same_look x (Some lexeme.KeyVar) || same_look x s
 first kind.Args s x = same_look x (Some lexeme.OpenParen) || same_look x s
-first kind.Consts s x = same_look x s
-first kind.Types s x = same_look x s
+first kind.Constdef s x = begins_name x
+first kind.Consts s x = same_look x (Some lexeme.KeyConst) || same_look x s
+first kind.Typedef s x = begins_name x
+first kind.Types s x = same_look x (Some lexeme.KeyType) || same_look x s
 first kind.Routines s x = same_look x s
+first (kind.Hole r) s x = same_look x (Some (lexeme.Hole r))
 first k s x = true
 
 abbrev pub Front : Kind → List ℕ → Forest → Type 0
@@ -73,10 +104,20 @@ Okay (Kid c ∷ l) w Nil rest = Unit {0}
 Okay (Kid c ∷ l) w (Cons k v ns ks ts) rest =
     (follow c (look (fill l w (texts ts) ++ rest)) ≡ true) × Quiet k ks (look (fill l w (texts ts) ++ rest)) × Okay l w ts rest
 
+-- a loop downwards has another word than it began with
+abbrev pub keeps_word : Kind → Bool
+keeps_word kind.For = false
+keeps_word _ = true
+
+-- how a node goes on that keeps its word
+abbrev pub kept_switch : Option (Kind × List Item) → Option (Kind × List Item)
+kept_switch None = None
+kept_switch (Some p) = if keeps_word p.0 then Some p else None
+
 -- what is left of a node's items after a symbol that is no word
 abbrev pub after_literal : Kind → List Item → Lexeme → Option (Kind × List Item)
-after_literal k [] x = switch k [] (Some x)
-after_literal k (Literal y ∷ m) x = if same y x then Some (k, m) else switch k (Literal y ∷ m) (Some x)
+after_literal k [] x = kept_switch (switch k [] (Some x))
+after_literal k (Literal y ∷ m) x = if same y x then Some (k, m) else kept_switch (switch k (Literal y ∷ m) (Some x))
 after_literal k (Word y ∷ m) x = None
 after_literal k (Kid c ∷ m) x = None
 
@@ -116,11 +157,29 @@ switched (Some p) P h = (p.0, p.1, refl, h)
 abbrev pub mark : Lexeme → Sym
 mark x = record { lexeme = x; spelling = [] }
 
+abbrev word_kept : Option (Kind × List Item) → Bool
+word_kept None = true
+word_kept (Some p) = keeps_word p.0
+
+kept_of : (o : Option (Kind × List Item)) (j : Kind) (n : List Item) → kept_switch o ≡ Some (j, n) → (o ≡ Some (j, n)) × (keeps_word j ≡ true)
+kept_of None j n h = cc
+kept_of (Some p) j n h = go (keeps_word p.0) refl h
+  where
+    go : (b : Bool) → keeps_word p.0 ≡ b → (if b then Some p else None) ≡ Some (j, n) → (Some p ≡ Some (j, n)) × (keeps_word j ≡ true)
+    go true e i = (i, sym (ap word_kept i) ∙ e)
+    go false e i = cc
+
+turned_kept : (j : Kind) (w : List ℕ) → keeps_word j ≡ true → turned_word j w ≡ w
+turned_kept kind.For w h = cc
+turned_kept _ w h = refl
+
 -- the step over a symbol that is no word
 over_literal : (root : Class) (k : Kind) (w : List ℕ) (kids : List Plain) (m : List Item) (fs : List (Frame Plain)) (x : Lexeme) (more : List Sym) (j : Kind) (n : List Item)
     → after_literal k m x ≡ Some (j, n) → step root (Reading (frame k w kids m) fs) (mark x ∷ more) ≡ Go (Reading (frame j w kids n) fs) more
 over_literal root k w kids [] fs x more j n e =
-    ap (λ o. apply (on_switch make_plain o (on_again make_plain (again k (Some x)) (Some x) [] (frame k w kids []) fs) (frame k w kids []) fs) (mark x ∷ more)) e
+    let p = kept_of (switch k [] (Some x)) j n e in
+    ap (λ o. apply (on_switch make_plain o (on_again make_plain (again k (Some x)) (Some x) [] (frame k w kids []) fs) (frame k w kids []) fs) (mark x ∷ more)) p.0
+    ∙ ap (λ v. Go (Reading (frame j v kids n) fs) more) (turned_kept j w p.1)
 over_literal root k w kids (Literal y ∷ m) fs x more j n e = go (same y x) refl
   where
     some_fst : (p q : Kind × List Item) → Some p ≡ Some q → p ≡ q
@@ -132,8 +191,9 @@ over_literal root k w kids (Literal y ∷ m) fs x more j n e = go (same y x) ref
         let p : (k, m) ≡ (j, n) = some_fst (k, m) (j, n) is in
         rw h (ap (λ (q : Kind × List Item). Go (Reading (frame q.0 w kids q.1) fs) more) p)
     go false h =
-        let is : switch k (Literal y ∷ m) (Some x) ≡ Some (j, n) = rw h at e in
-        rw (h, is) refl
+        let is : kept_switch (switch k (Literal y ∷ m) (Some x)) ≡ Some (j, n) = rw h at e in
+        let p = kept_of (switch k (Literal y ∷ m) (Some x)) j n is in
+        rw (h, p.0) (ap (λ v. Go (Reading (frame j v kids n) fs) more) (turned_kept j w p.1))
 over_literal root k w kids (Word y ∷ m) fs x more j n e = cc
 over_literal root k w kids (Kid c ∷ m) fs x more j n e = cc
 

@@ -10,7 +10,7 @@ use Rattle.pc_syntax.specs.Classes.{has}
 use Rattle.pc_syntax.specs.Symbols.{Sym, symbols_of}
 use Rattle.pc_parse.specs.Reading.{Reads}
 use Rattle.pc_parse.specs.Lookahead.{same_at, look, word_at, after}
-use Rattle.pc_parse.specs.Tables.{start, grow, switch, again}
+use Rattle.pc_parse.specs.Tables.{start, grow, switch, turned_word, again}
 use Rattle.pc_parse.specs.Machine.{Frame, frame, State, Opening, Reading, Holding, Plan, Take, Stuck, on_switch, on_again, at_items, on_give, on_grow, at_kid, awaited, awaited_by}
 use Rattle.pc_parse.specs.Runs.{make_plain, Step, Go, Accept, Refuse, apply, step, continue, exec}
 use Rattle.pc_parse.specs.Proper.{Proper}
@@ -84,7 +84,7 @@ below_as root j k (f ∷ fs) before h b =
 -- a frame goes on at a symbol that isn't its next item
 switching_ok : (root : Class) (f : Frame Plain) (fs : List (Frame Plain)) (items : List Item) (whole used ys : List Sym)
     → ReadingOk root f fs used (look ys) → f.items ≡ items → used ++ ys ≡ whole → Proper ys
-    → (k : Kind) (m : List Item) → switch f.kind items (look ys) ≡ Some (k, m) → StepOk root whole (Go (Reading (frame k f.word f.kids m) fs) (after ys))
+    → (k : Kind) (m : List Item) → switch f.kind items (look ys) ≡ Some (k, m) → StepOk root whole (Go (Reading (frame k (turned_word k f.word) f.kids m) fs) (after ys))
 switching_ok root f fs items whole used [] r e split clean k m h = none-some (k, m) (sym (switch_none f.kind items) ∙ h)
 switching_ok root f fs items whole used (y ∷ ys) r e split clean k m h =
     let front : FrontOk f.kind f.word (forest_of f.kids) items r.pre r.text = rw e at r.front in
@@ -104,7 +104,7 @@ switching_ok root f fs items whole used (y ∷ ys) r e split clean k m h =
     )
 
 switch_go : (o : Option (Kind × List Item)) (other : Plan Plain) (f : Frame Plain) (fs : List (Frame Plain)) (root : Class) (whole ys : List Sym)
-    → ((k : Kind) (m : List Item) → o ≡ Some (k, m) → StepOk root whole (Go (Reading (frame k f.word f.kids m) fs) (after ys)))
+    → ((k : Kind) (m : List Item) → o ≡ Some (k, m) → StepOk root whole (Go (Reading (frame k (turned_word k f.word) f.kids m) fs) (after ys)))
     → (o ≡ None → StepOk root whole (apply other ys))
     → StepOk root whole (apply (on_switch make_plain o other f fs) ys)
 switch_go None other f fs root whole ys taken kept = kept refl

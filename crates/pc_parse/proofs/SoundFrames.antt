@@ -114,7 +114,7 @@ pub past_never : (k : Kind) (ks : Forest) → not (has_else k) ≡ true → past
 past_never kind.Ifelse ks h = cc
 past_never _ ks h = refl
 
-fits-more : (pre l : List Item) (ks js : List Kind) → fits pre ks ≡ true → fits l js ≡ true → fits (pre ++ l) (ks ++ js) ≡ true
+pub fits-more : (pre l : List Item) (ks js : List Kind) → fits pre ks ≡ true → fits l js ≡ true → fits (pre ++ l) (ks ++ js) ≡ true
 fits-more [] l [] js h e = e
 fits-more [] l (k ∷ ks) js h e = cc
 fits-more (Literal x ∷ pre) l ks js h e = fits-more pre l ks js h e
@@ -157,7 +157,7 @@ give_front k w ks c m pre text t ok member good = record {
     text_eq : text ++ symbols_of t ≡ fill (pre ++ Kid c ∷ []) w (texts (snoc ks t))
     text_eq = rw (texts-snoc ks t, fill-more pre (Kid c ∷ []) w ks (symbols_of t ∷ []) ok.fit, ok.text_is, append-nil (symbols_of t)) refl
 
-filled : (pre : List Item) (x : Lexeme) (w : List ℕ) (ks : Forest) (text : List Sym) → fits pre (kinds ks) ≡ true → text ≡ fill pre w (texts ks)
+pub filled : (pre : List Item) (x : Lexeme) (w : List ℕ) (ks : Forest) (text : List Sym) → fits pre (kinds ks) ≡ true → text ≡ fill pre w (texts ks)
     → text ++ mark x ∷ [] ≡ fill (pre ++ Literal x ∷ []) w (texts ks)
 filled pre x w ks text fit text_is =
     let e : fill (pre ++ Literal x ∷ []) w (texts ks ++ []) ≡ fill pre w (texts ks) ++ mark x ∷ [] = fill-more pre (Literal x ∷ []) w ks [] fit in

@@ -12,7 +12,7 @@ use Rattle.pc_syntax.specs.Layout.{layout}
 use Rattle.pc_syntax.specs.Classes.{has}
 use Rattle.pc_syntax.specs.Symbols.{Sym, symbols_of}
 use Rattle.pc_syntax.specs.WellFormed.{opens}
-use Rattle.pc_syntax.specs.Words.{is_identifier, is_forward, is_numeral}
+use Rattle.pc_syntax.specs.Words.{is_identifier, is_forward, is_numeral, is_text}
 use Rattle.pc_parse.specs.Reading.{lay, Reads}
 use Rattle.pc_parse.specs.Lookahead.{look, word_at}
 use Rattle.pc_parse.specs.Tables.{Start, Leaf, Open, Predict, Blank, NoStart, Grow, Give, Wrap, Shift, Enter}
@@ -96,6 +96,18 @@ word_node kind.Name x w h l p =
 word_node kind.Number x w h l p =
     let e : lexeme.Numeral ≡ x = same_eq lexeme.Numeral x h in
     let q : is_numeral w ≡ true = rw (← e) at p in
+    rw (← e) (record { kind_is = refl; good = (rw q refl, refl, refl, tt, tt) }, rw q refl, refl)
+word_node kind.Text x w h l p =
+    let e : lexeme.Text ≡ x = same_eq lexeme.Text x h in
+    let q : is_text w ≡ true = rw (← e) at p in
+    rw (← e) (record { kind_is = refl; good = (rw q refl, refl, refl, tt, tt) }, rw q refl, refl)
+word_node kind.Cnumber x w h l p =
+    let e : lexeme.Numeral ≡ x = same_eq lexeme.Numeral x h in
+    let q : is_numeral w ≡ true = rw (← e) at p in
+    rw (← e) (record { kind_is = refl; good = (rw q refl, refl, refl, tt, tt) }, rw q refl, refl)
+word_node kind.Cstring x w h l p =
+    let e : lexeme.Text ≡ x = same_eq lexeme.Text x h in
+    let q : is_text w ≡ true = rw (← e) at p in
     rw (← e) (record { kind_is = refl; good = (rw q refl, refl, refl, tt, tt) }, rw q refl, refl)
 word_node kind.Forward x w h l p =
     let e : lexeme.Identifier ≡ x = same_eq lexeme.Identifier x h in

@@ -5,18 +5,20 @@ use Rattle.pc_syntax.specs.declared.lexeme.Lexeme.{Lexeme}
 use Rattle.pc_syntax.specs.declared.lexeme.Lexeme.TheVariants as lexeme
 use Rattle.pc_syntax.specs.declared.kind.Kind.{Kind}
 use Rattle.pc_syntax.specs.declared.kind.Kind.TheVariants as kind
+use Rattle.pc_syntax.specs.declared.sort.Sort.TheVariants as sort
 use Rattle.pc_syntax.specs.declared.class.Class.{Class}
 use Rattle.pc_syntax.specs.declared.class.Class.TheVariants as class
 use Rattle.pc_syntax.specs.declared.item.Item.{Item}
 use Rattle.pc_syntax.specs.declared.item.Item.TheVariants.{Literal, Word, Kid}
 use Rattle.pc_syntax.specs.Plain.{Forest, Nil, Cons, count, kinds}
-use Rattle.pc_syntax.specs.Layout.{further, elements, some_elements}
-use Rattle.pc_syntax.specs.Symbols.{Sym}
+use Rattle.pc_syntax.specs.Spellings.{spelling_of}
+use Rattle.pc_syntax.specs.Layout.{operator, around, further, elements, some_elements}
+use Rattle.pc_syntax.specs.Symbols.{Sym, fill, texts}
 use Rattle.pc_syntax.specs.WellFormed.{fits, opens, last_open, second_open}
-use Rattle.pc_parse.specs.Tables.{switch, again}
+use Rattle.pc_parse.specs.Tables.{switch, turned_word, again}
 use Rattle.pc_parse.proofs.Entries.{&&_split}
-use Rattle.pc_parse.proofs.SoundTables.{corner, is_mark, is_empty}
-use Rattle.pc_parse.proofs.SoundFrames.{true-false, some_eq, mark, past_second, FrontOk, mark_front}
+use Rattle.pc_parse.proofs.SoundTables.{corner, is_mark, marks, is_empty}
+use Rattle.pc_parse.proofs.SoundFrames.{true-false, some_eq, mark, past_second, FrontOk, fits-more, filled, mark_front}
 
 abbrev pub ends_kid : List Item → Bool
 ends_kid [] = false
@@ -61,13 +63,17 @@ parens_more c (suc n) pre h =
     let e : front ≡ pre = append_cancel_right front pre close (ap (λ l. Literal lexeme.OpenParen ∷ Kid c ∷ l) (further_close lexeme.Comma c n close) ∙ some_eq _ _ h) in
     rw (append_assoc pre (Literal lexeme.Comma ∷ []) (Kid c ∷ close), ← e) (ap (λ l. Some (Literal lexeme.OpenParen ∷ Kid c ∷ l)) (sym (further_more lexeme.Comma c n close)))
 
-vars_more : (n : ℕ) (pre : List Item) → elements (Literal lexeme.KeyVar ∷ []) None class.Vardef [] n ≡ Some pre → is_empty pre ≡ false
-    → elements (Literal lexeme.KeyVar ∷ []) None class.Vardef [] (suc n) ≡ Some (pre ++ Kid class.Vardef ∷ [])
-vars_more zero [] h e = true-false e
-vars_more zero (i ∷ pre) h e = cc
-vars_more (suc n) pre h e =
-    let front : pre ≡ Literal lexeme.KeyVar ∷ Kid class.Vardef ∷ further None class.Vardef n [] = sym (some_eq _ _ h) in
-    rw front (ap (λ l. Some (Literal lexeme.KeyVar ∷ Kid class.Vardef ∷ l)) (sym (further_again class.Vardef n)))
+items_more : (x : Lexeme) (c : Class) (n : ℕ) (pre : List Item) → elements (Literal x ∷ []) None c [] n ≡ Some pre → is_empty pre ≡ false
+    → elements (Literal x ∷ []) None c [] (suc n) ≡ Some (pre ++ Kid c ∷ [])
+items_more x c zero [] h e = true-false e
+items_more x c zero (i ∷ pre) h e = cc
+items_more x c (suc n) pre h e =
+    let front : pre ≡ Literal x ∷ Kid c ∷ further None c n [] = sym (some_eq _ _ h) in
+    rw front (ap (λ l. Some (Literal x ∷ Kid c ∷ l)) (sym (further_again c n)))
+
+not_empty : (c : Class) (l : List Item) → is_empty (l ++ Kid c ∷ []) ≡ false
+not_empty c [] = refl
+not_empty c (i ∷ l) = refl
 
 if_kids : (ks : Forest) → fits (Literal lexeme.KeyIf ∷ Kid class.Expression ∷ Literal lexeme.KeyThen ∷ Kid class.Statement ∷ []) (kinds ks) ≡ true → (past_second kind.Ifelse ks ≡ true) × (second_open ks ≡ last_open ks)
 if_kids Nil h = cc
@@ -86,7 +92,7 @@ second_eq : (p q : Kind × List Item) → Some p ≡ Some q → q.1 ≡ p.1
 second_eq p q e = sym (ap (λ (r : Kind × List Item). r.1) (some_eq p q e))
 
 pub record Switching (j : Kind) (w : List ℕ) (ks : Forest) (x : Lexeme) (k : Kind) (m pre : List Item) (text : List Sym) : Type 0 where
-  pub front : FrontOk k w ks m (pre ++ Literal x ∷ []) (text ++ mark x ∷ [])
+  pub front : FrontOk k (turned_word k w) ks m (pre ++ Literal x ∷ []) (text ++ mark x ∷ [])
   pub marked : is_mark x ≡ true
   pub corners : (c : Class) → corner c j ≡ true → corner c k ≡ true
 
@@ -120,6 +126,69 @@ if_more [] ks pre text ok calm =
       corners = if_corner;
     }
 
+-- a loop before its last bound, and after the word that tells its way
+abbrev loop_front : List Item
+loop_front = Literal lexeme.KeyFor ∷ Kid class.Name ∷ Literal lexeme.Becomes ∷ Kid class.Expression ∷ []
+
+abbrev loop_back : List Item
+loop_back = Kid class.Expression ∷ Literal lexeme.KeyDo ∷ Kid class.Statement ∷ []
+
+for_switch : (items : List Item) (x : Lexeme) (p : Kind × List Item) → switch kind.For items (Some x) ≡ Some p
+    → (n : List Item) × Goes items x p (Literal lexeme.KeyTo ∷ n) lexeme.KeyDownto kind.For loop_back
+for_switch (Literal lexeme.KeyTo ∷ n) lexeme.KeyDownto p e = (n, record { items_are = refl; symbol_is = refl; kind_is = first_eq _ _ e; more_are = second_eq _ _ e })
+for_switch _ _ p e = none-some p e
+
+-- the one place of `to` in a loop
+front_of : (y : Lexeme) (pre n : List Item) → loop_front ++ Literal y ∷ loop_back ≡ pre ++ Literal lexeme.KeyTo ∷ n → pre ≡ loop_front
+front_of y [] n h = cc
+front_of y (a ∷ []) n h = cc
+front_of y (a ∷ b ∷ []) n h = cc
+front_of y (a ∷ b ∷ c ∷ []) n h = cc
+front_of y (a ∷ b ∷ c ∷ d ∷ []) n h = cc
+front_of y (a ∷ b ∷ c ∷ d ∷ e ∷ []) n h = cc
+front_of y (a ∷ b ∷ c ∷ d ∷ e ∷ f ∷ []) n h = cc
+front_of y (a ∷ b ∷ c ∷ d ∷ e ∷ f ∷ g ∷ []) n h = cc
+front_of y (a ∷ b ∷ c ∷ d ∷ e ∷ f ∷ g ∷ i ∷ []) n h = cc
+front_of y (a ∷ b ∷ c ∷ d ∷ e ∷ f ∷ g ∷ i ∷ j ∷ pre) n h = cc
+
+-- items without a word say nothing of it
+fill_word : (l : List Item) (w v : List ℕ) (us : List (List Sym)) → marks l ≡ true → fill l w us ≡ fill l v us
+fill_word [] w v us h = refl
+fill_word (Literal x ∷ l) w v us h = ap (λ m. mark x ∷ m) (fill_word l w v us (&&_split _ _ h).1)
+fill_word (Word x ∷ l) w v us h = cc
+fill_word (Kid c ∷ l) w v [] h = refl
+fill_word (Kid c ∷ l) w v (s ∷ us) h = ap (λ m. s ++ m) (fill_word l w v us h)
+
+for_more : (w : List ℕ) (ks : Forest) (n pre : List Item) (text : List Sym) → FrontOk kind.For w ks (Literal lexeme.KeyTo ∷ n) pre text
+    → Switching kind.For w ks lexeme.KeyDownto kind.For loop_back pre text
+for_more w ks n pre text ok =
+    let front : pre ≡ loop_front = placed (operator (lexeme.KeyTo ∷ lexeme.KeyDownto ∷ []) w) ok.laid in
+    let down = spelling_of lexeme.KeyDownto in
+    let wordless : marks pre ≡ true = rw front refl in record {
+      front = record {
+        laid = rw front refl;
+        fit = rw (append-nil (kinds ks)) at (fits-more pre (Literal lexeme.KeyDownto ∷ []) (kinds ks) [] ok.fit refl);
+        good = ok.good;
+        text_is = filled pre lexeme.KeyDownto down ks text ok.fit (ok.text_is ∙ fill_word pre w down (texts ks) wordless);
+        rule = refl;
+        past = refl;
+        marked = refl;
+        begun = rw front refl;
+      };
+      marked = refl;
+      corners = λ c h. h;
+    }
+  where
+    placed : (o : Option Lexeme) → around o loop_front loop_back ≡ Some (pre ++ Literal lexeme.KeyTo ∷ n) → pre ≡ loop_front
+    placed None h = none-some _ h
+    placed (Some y) h = front_of y pre n (some_eq _ _ h)
+
+for_ends : (o : Option Lexeme) (pre : List Item) → around o loop_front loop_back ≡ Some pre → ends_kid pre ≡ true
+for_ends None pre h = none-some _ h
+for_ends (Some y) pre h =
+    let front : pre ≡ loop_front ++ Literal y ∷ loop_back = sym (some_eq _ _ h) in
+    rw front refl
+
 stmts_switch : (items : List Item) (x : Lexeme) (p : Kind × List Item) → switch kind.Stmts items (Some x) ≡ Some p → Goes items x p [] lexeme.Semicolon kind.Stmts (Kid class.Statement ∷ [])
 stmts_switch [] lexeme.Semicolon p e = record { items_are = refl; symbol_is = refl; kind_is = first_eq _ _ e; more_are = second_eq _ _ e }
 stmts_switch _ _ p e = none-some p e
@@ -133,6 +202,19 @@ stmts_more [] ks pre text ok =
       corners = λ c h. h;
     }
 
+indexes_switch : (items : List Item) (x : Lexeme) (p : Kind × List Item) → switch kind.Indexes items (Some x) ≡ Some p → Goes items x p [] lexeme.Comma kind.Indexes (Kid class.Ordinal ∷ [])
+indexes_switch [] lexeme.Comma p e = record { items_are = refl; symbol_is = refl; kind_is = first_eq _ _ e; more_are = second_eq _ _ e }
+indexes_switch _ _ p e = none-some p e
+
+indexes_more : (w : List ℕ) (ks : Forest) (pre : List Item) (text : List Sym) → FrontOk kind.Indexes w ks [] pre text → Switching kind.Indexes w ks lexeme.Comma kind.Indexes (Kid class.Ordinal ∷ []) pre text
+indexes_more (b ∷ w) ks pre text ok = none-some _ ok.laid
+indexes_more [] ks pre text ok =
+    let laid : some_elements (Some lexeme.Comma) class.Ordinal (count ks) ≡ Some pre = rw (add-zero (count ks), append-nil pre) at ok.laid in record {
+      front = mark_front kind.Indexes [] ks [] lexeme.Comma kind.Indexes (Kid class.Ordinal ∷ []) pre text ok (rw (add_one (count ks)) (list_more lexeme.Comma class.Ordinal (count ks) pre laid)) refl refl refl;
+      marked = refl;
+      corners = λ c h. h;
+    }
+
 exprs_switch : (items : List Item) (x : Lexeme) (p : Kind × List Item) → switch kind.Exprs items (Some x) ≡ Some p → Goes items x p [] lexeme.Comma kind.Exprs (Kid class.Expression ∷ [])
 exprs_switch [] lexeme.Comma p e = record { items_are = refl; symbol_is = refl; kind_is = first_eq _ _ e; more_are = second_eq _ _ e }
 exprs_switch _ _ p e = none-some p e
@@ -142,6 +224,39 @@ exprs_more (b ∷ w) ks pre text ok = none-some _ ok.laid
 exprs_more [] ks pre text ok =
     let laid : some_elements (Some lexeme.Comma) class.Expression (count ks) ≡ Some pre = rw (add-zero (count ks), append-nil pre) at ok.laid in record {
       front = mark_front kind.Exprs [] ks [] lexeme.Comma kind.Exprs (Kid class.Expression ∷ []) pre text ok (rw (add_one (count ks)) (list_more lexeme.Comma class.Expression (count ks) pre laid)) refl refl refl;
+      marked = refl;
+      corners = λ c h. h;
+    }
+
+accesses_switch : (items : List Item) (x : Lexeme) (p : Kind × List Item) → switch kind.Accesses items (Some x) ≡ Some p → Goes items x p [] lexeme.Comma kind.Accesses (Kid class.Access ∷ [])
+accesses_switch [] lexeme.Comma p e = record { items_are = refl; symbol_is = refl; kind_is = first_eq _ _ e; more_are = second_eq _ _ e }
+accesses_switch _ _ p e = none-some p e
+
+accesses_more : (w : List ℕ) (ks : Forest) (pre : List Item) (text : List Sym) → FrontOk kind.Accesses w ks [] pre text → Switching kind.Accesses w ks lexeme.Comma kind.Accesses (Kid class.Access ∷ []) pre text
+accesses_more (b ∷ w) ks pre text ok = none-some _ ok.laid
+accesses_more [] ks pre text ok =
+    let laid : some_elements (Some lexeme.Comma) class.Access (count ks) ≡ Some pre = rw (add-zero (count ks), append-nil pre) at ok.laid in record {
+      front = mark_front kind.Accesses [] ks [] lexeme.Comma kind.Accesses (Kid class.Access ∷ []) pre text ok (rw (add_one (count ks)) (list_more lexeme.Comma class.Access (count ks) pre laid)) refl refl refl;
+      marked = refl;
+      corners = λ c h. h;
+    }
+
+members_switch : (items : List Item) (x : Lexeme) (p : Kind × List Item) → switch kind.Members items (Some x) ≡ Some p → Goes items x p [] lexeme.Comma kind.Members (Kid class.Member ∷ [])
+members_switch [] lexeme.Comma p e = record { items_are = refl; symbol_is = refl; kind_is = first_eq _ _ e; more_are = second_eq _ _ e }
+members_switch _ _ p e = none-some p e
+
+member_more : (n : ℕ) (pre : List Item) → elements [] (Some lexeme.Comma) class.Member [] n ≡ Some pre → is_empty pre ≡ false
+    → elements [] (Some lexeme.Comma) class.Member [] (suc n) ≡ Some ((pre ++ Literal lexeme.Comma ∷ []) ++ Kid class.Member ∷ [])
+member_more zero [] h e = true-false e
+member_more zero (i ∷ pre) h e = cc
+member_more (suc n) pre h e = list_more lexeme.Comma class.Member (suc n) pre h
+
+members_more : (w : List ℕ) (ks : Forest) (pre : List Item) (text : List Sym) → FrontOk kind.Members w ks [] pre text → Switching kind.Members w ks lexeme.Comma kind.Members (Kid class.Member ∷ []) pre text
+members_more (b ∷ w) ks pre text ok = none-some _ ok.laid
+members_more [] ks pre text ok =
+    let laid : elements [] (Some lexeme.Comma) class.Member [] (count ks) ≡ Some pre = rw (add-zero (count ks), append-nil pre) at ok.laid in
+    let begun : is_empty pre ≡ false = rw (append-nil pre) at ok.begun in record {
+      front = mark_front kind.Members [] ks [] lexeme.Comma kind.Members (Kid class.Member ∷ []) pre text ok (rw (add_one (count ks)) (member_more (count ks) pre laid begun)) refl refl refl;
       marked = refl;
       corners = λ c h. h;
     }
@@ -194,8 +309,12 @@ heads_more [] ks pre text ok =
 pub switched_ok : (j : Kind) (w : List ℕ) (ks : Forest) (items : List Item) (x : Lexeme) (k : Kind) (m pre : List Item) (text : List Sym)
     → switch j items (Some x) ≡ Some (k, m) → FrontOk j w ks items pre text → Calm pre ks (Some x) → Switching j w ks x k m pre text
 switched_ok kind.If w ks items x k m pre text e ok calm = let g = if_switch items x (k, m) e in rw (g.symbol_is, g.kind_is, g.more_are) (if_more w ks pre text (rw g.items_are at ok) (rw g.symbol_is at calm))
+switched_ok kind.For w ks items x k m pre text e ok calm = let g = for_switch items x (k, m) e in rw (g.1.symbol_is, g.1.kind_is, g.1.more_are) (for_more w ks g.0 pre text (rw g.1.items_are at ok))
 switched_ok kind.Stmts w ks items x k m pre text e ok calm = let g = stmts_switch items x (k, m) e in rw (g.symbol_is, g.kind_is, g.more_are) (stmts_more w ks pre text (rw g.items_are at ok))
+switched_ok kind.Indexes w ks items x k m pre text e ok calm = let g = indexes_switch items x (k, m) e in rw (g.symbol_is, g.kind_is, g.more_are) (indexes_more w ks pre text (rw g.items_are at ok))
 switched_ok kind.Exprs w ks items x k m pre text e ok calm = let g = exprs_switch items x (k, m) e in rw (g.symbol_is, g.kind_is, g.more_are) (exprs_more w ks pre text (rw g.items_are at ok))
+switched_ok kind.Accesses w ks items x k m pre text e ok calm = let g = accesses_switch items x (k, m) e in rw (g.symbol_is, g.kind_is, g.more_are) (accesses_more w ks pre text (rw g.items_are at ok))
+switched_ok kind.Members w ks items x k m pre text e ok calm = let g = members_switch items x (k, m) e in rw (g.symbol_is, g.kind_is, g.more_are) (members_more w ks pre text (rw g.items_are at ok))
 switched_ok kind.Names w ks items x k m pre text e ok calm = let g = names_switch items x (k, m) e in rw (g.symbol_is, g.kind_is, g.more_are) (names_more w ks pre text (rw g.items_are at ok))
 switched_ok kind.Args w ks items x k m pre text e ok calm = let g = args_switch items x (k, m) e in rw (g.symbol_is, g.kind_is, g.more_are) (args_more w ks pre text (rw g.items_are at ok))
 switched_ok kind.Heads w ks items x k m pre text e ok calm = let g = heads_switch items x (k, m) e in rw (g.symbol_is, g.kind_is, g.more_are) (heads_more w ks pre text (rw g.items_are at ok))
@@ -204,37 +323,90 @@ switched_ok _ w ks items x k m pre text e ok calm = none-some (k, m) e
 -- at the end nothing goes on
 pub switch_none : (j : Kind) (items : List Item) → switch j items None ≡ None
 switch_none kind.If [] = refl
+switch_none kind.For (Literal lexeme.KeyTo ∷ m) = refl
 switch_none kind.Stmts [] = refl
+switch_none kind.Indexes [] = refl
 switch_none kind.Exprs [] = refl
+switch_none kind.Accesses [] = refl
+switch_none kind.Members [] = refl
 switch_none kind.Names [] = refl
 switch_none kind.Args (Literal lexeme.CloseParen ∷ []) = refl
 switch_none kind.Heads (Literal lexeme.CloseParen ∷ []) = refl
 switch_none _ _ = refl
 
+vars_again : (x : Option Lexeme) (c : Class) → again kind.Vars x ≡ Some c → c ≡ class.Vardef
+vars_again (Some lexeme.Identifier) c e = sym (some_eq _ _ e)
+vars_again (Some (lexeme.Hole sort.VarDef)) c e = sym (some_eq _ _ e)
+vars_again (Some (lexeme.Hole sort.Name)) c e = sym (some_eq _ _ e)
+vars_again (Some (lexeme.Hole _)) c e = cc
+vars_again _ c e = cc
+
+consts_again : (x : Option Lexeme) (c : Class) → again kind.Consts x ≡ Some c → c ≡ class.Constdef
+consts_again (Some lexeme.Identifier) c e = sym (some_eq _ _ e)
+consts_again (Some (lexeme.Hole sort.ConstDef)) c e = sym (some_eq _ _ e)
+consts_again (Some (lexeme.Hole sort.Name)) c e = sym (some_eq _ _ e)
+consts_again (Some (lexeme.Hole _)) c e = cc
+consts_again _ c e = cc
+
+types_again : (x : Option Lexeme) (c : Class) → again kind.Types x ≡ Some c → c ≡ class.Typedef
+types_again (Some lexeme.Identifier) c e = sym (some_eq _ _ e)
+types_again (Some (lexeme.Hole sort.TypeDef)) c e = sym (some_eq _ _ e)
+types_again (Some (lexeme.Hole sort.Name)) c e = sym (some_eq _ _ e)
+types_again (Some (lexeme.Hole _)) c e = cc
+types_again _ c e = cc
+
 -- a list without separators goes on
 pub again_ok : (k : Kind) (w : List ℕ) (ks : Forest) (x : Option Lexeme) (c : Class) (pre : List Item) (text : List Sym)
     → again k x ≡ Some c → FrontOk k w ks [] pre text → FrontOk k w ks (Kid c ∷ []) pre text
-again_ok kind.Vars (b ∷ w) ks (Some lexeme.Identifier) c pre text e ok = let h = ok.laid in cc
-again_ok kind.Vars [] ks (Some lexeme.Identifier) c pre text e ok =
-    let ec : c ≡ class.Vardef = sym (some_eq _ _ e) in
-    let laid : elements (Literal lexeme.KeyVar ∷ []) None class.Vardef [] (count ks) ≡ Some pre = rw (add-zero (count ks), append-nil pre) at ok.laid in
+again_ok kind.Consts (b ∷ w) ks x c pre text e ok = let h = ok.laid in cc
+again_ok kind.Consts [] ks x c pre text e ok =
+    let ec : c ≡ class.Constdef = consts_again x c e in
+    let laid : elements (Literal lexeme.KeyConst ∷ []) None class.Constdef [] (count ks) ≡ Some pre = rw (add-zero (count ks), append-nil pre) at ok.laid in
     let begun : is_empty pre ≡ false = rw (append-nil pre) at ok.begun in
     let number : count ks + 1 ≡ suc (count ks) = omega arith in
     rw ec record {
-      laid = rw number (vars_more (count ks) pre laid begun);
+      laid = rw number (items_more lexeme.KeyConst class.Constdef (count ks) pre laid begun);
       fit = ok.fit;
       good = ok.good;
       text_is = ok.text_is;
       rule = refl;
       past = refl;
       marked = refl;
-      begun = begins pre;
+      begun = not_empty class.Constdef pre;
     }
-  where
-    begins : (l : List Item) → is_empty (l ++ Kid class.Vardef ∷ []) ≡ false
-    begins [] = refl
-    begins (i ∷ l) = refl
-again_ok _ w ks _ c pre text e ok = cc
+again_ok kind.Types (b ∷ w) ks x c pre text e ok = let h = ok.laid in cc
+again_ok kind.Types [] ks x c pre text e ok =
+    let ec : c ≡ class.Typedef = types_again x c e in
+    let laid : elements (Literal lexeme.KeyType ∷ []) None class.Typedef [] (count ks) ≡ Some pre = rw (add-zero (count ks), append-nil pre) at ok.laid in
+    let begun : is_empty pre ≡ false = rw (append-nil pre) at ok.begun in
+    let number : count ks + 1 ≡ suc (count ks) = omega arith in
+    rw ec record {
+      laid = rw number (items_more lexeme.KeyType class.Typedef (count ks) pre laid begun);
+      fit = ok.fit;
+      good = ok.good;
+      text_is = ok.text_is;
+      rule = refl;
+      past = refl;
+      marked = refl;
+      begun = not_empty class.Typedef pre;
+    }
+again_ok kind.Vars (b ∷ w) ks x c pre text e ok = let h = ok.laid in cc
+again_ok kind.Vars [] ks x c pre text e ok =
+    let ec : c ≡ class.Vardef = vars_again x c e in
+    let laid : elements (Literal lexeme.KeyVar ∷ []) None class.Vardef [] (count ks) ≡ Some pre = rw (add-zero (count ks), append-nil pre) at ok.laid in
+    let begun : is_empty pre ≡ false = rw (append-nil pre) at ok.begun in
+    let number : count ks + 1 ≡ suc (count ks) = omega arith in
+    rw ec record {
+      laid = rw number (items_more lexeme.KeyVar class.Vardef (count ks) pre laid begun);
+      fit = ok.fit;
+      good = ok.good;
+      text_is = ok.text_is;
+      rule = refl;
+      past = refl;
+      marked = refl;
+      begun = not_empty class.Vardef pre;
+    }
+again_ok _ w ks x c pre text e ok = cc
 
 -- a node that is done and doesn't go on at else doesn't end open
 pub quiet_of : (k : Kind) (w : List ℕ) (ks : Forest) (pre : List Item) (text : List Sym) (x : Option Lexeme)
@@ -248,8 +420,12 @@ quiet_of kind.While (b ∷ w) ks pre text x ok calm e = let h = ok.laid in cc
 quiet_of kind.While [] ks pre text x ok calm e =
     let front : pre ≡ Literal lexeme.KeyWhile ∷ Kid class.Expression ∷ Literal lexeme.KeyDo ∷ Kid class.Statement ∷ [] = sym (some_eq _ _ (ok.laid ∙ ap Some (append-nil pre))) in
     record { closed = λ h. calm.closed (rw front refl) h }
-quiet_of kind.For w ks pre text x ok calm e = let h = ok.laid in cc
-quiet_of kind.With w ks pre text x ok calm e = let h = ok.laid in cc
+quiet_of kind.For w ks pre text x ok calm e =
+    record { closed = λ h. calm.closed (for_ends (operator (lexeme.KeyTo ∷ lexeme.KeyDownto ∷ []) w) pre (ok.laid ∙ ap Some (append-nil pre))) h }
+quiet_of kind.With (b ∷ w) ks pre text x ok calm e = let h = ok.laid in cc
+quiet_of kind.With [] ks pre text x ok calm e =
+    let front : pre ≡ Literal lexeme.KeyWith ∷ Kid class.Accesses ∷ Literal lexeme.KeyDo ∷ Kid class.Statement ∷ [] = sym (some_eq _ _ (ok.laid ∙ ap Some (append-nil pre))) in
+    record { closed = λ h. calm.closed (rw front refl) h }
 quiet_of _ w ks pre text x ok calm e = record { closed = λ h. refl }
 
 pub no_kid_calm : (l : List Item) (x : Lexeme) (ks : Forest) (y : Option Lexeme) → Calm (l ++ Literal x ∷ []) ks y

@@ -4,6 +4,7 @@ use Rattle.pc_syntax.specs.declared.lexeme.Lexeme.{Lexeme}
 use Rattle.pc_syntax.specs.declared.lexeme.Lexeme.TheVariants as lexeme
 use Rattle.pc_syntax.specs.declared.kind.Kind.{Kind}
 use Rattle.pc_syntax.specs.declared.kind.Kind.TheVariants as kind
+use Rattle.pc_syntax.specs.declared.sort.Sort.TheVariants as sort
 use Rattle.pc_syntax.specs.declared.class.Class.{Class}
 use Rattle.pc_syntax.specs.declared.class.Class.TheVariants as class
 use Rattle.pc_syntax.specs.declared.item.Item.{Item}
@@ -23,12 +24,44 @@ corner class.Statement kind.Name = true
 corner class.Statement kind.Ref = true
 corner class.Statement kind.Index = true
 corner class.Statement kind.Select = true
+corner class.Statement kind.Deref = true
 corner class.Argument kind.Name = true
+corner class.Member kind.Name = true
 corner class.Expression kind.Name = true
 corner class.Simple kind.Name = true
 corner class.Term kind.Name = true
 corner class.Factor kind.Name = true
 corner class.Access kind.Name = true
+corner class.Denoter (kind.Hole sort.Name) = true
+corner class.Statement (kind.Hole sort.Name) = true
+corner class.Argument (kind.Hole sort.Name) = true
+corner class.Member (kind.Hole sort.Name) = true
+corner class.Expression (kind.Hole sort.Name) = true
+corner class.Simple (kind.Hole sort.Name) = true
+corner class.Term (kind.Hole sort.Name) = true
+corner class.Factor (kind.Hole sort.Name) = true
+corner class.Access (kind.Hole sort.Name) = true
+corner class.Statement (kind.Hole sort.Expression) = true
+corner class.Constdef kind.Name = true
+corner class.Constdef (kind.Hole sort.Name) = true
+corner class.Constant kind.Name = true
+corner class.Constant (kind.Hole sort.Name) = true
+corner class.Bare kind.Name = true
+corner class.Bare (kind.Hole sort.Name) = true
+corner class.Typedef kind.Name = true
+corner class.Typedef (kind.Hole sort.Name) = true
+corner class.Ordinal kind.Name = true
+corner class.Ordinal (kind.Hole sort.Name) = true
+corner class.Denoter kind.Cnumber = true
+corner class.Denoter kind.Cstring = true
+corner class.Denoter kind.Cname = true
+corner class.Denoter kind.Csign = true
+corner class.Denoter (kind.Hole sort.Constant) = true
+corner class.Ordinal kind.Cnumber = true
+corner class.Ordinal kind.Cstring = true
+corner class.Ordinal kind.Cname = true
+corner class.Ordinal kind.Csign = true
+corner class.Ordinal (kind.Hole sort.Constant) = true
 corner c k = has c k
 
 -- a key word, a mark or a hole
@@ -46,6 +79,9 @@ is_mark_at (Some x) = is_mark x
 abbrev pub is_word : Kind → Option Lexeme → Bool
 is_word kind.Name x = same_at lexeme.Identifier x
 is_word kind.Number x = same_at lexeme.Numeral x
+is_word kind.Text x = same_at lexeme.Text x
+is_word kind.Cnumber x = same_at lexeme.Numeral x
+is_word kind.Cstring x = same_at lexeme.Text x
 is_word kind.Forward x = same_at lexeme.Identifier x
 is_word _ x = false
 

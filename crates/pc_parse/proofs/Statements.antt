@@ -1,28 +1,45 @@
 -- The nodes of statements are read.
-use Rattle.std.proofs.Common.{◌≡◌, ℕ, Bool, true, false, ◌||◌, not, List, [], ◌∷◌, ◌++◌, Option, Some, refl, ap, sym, ◌∙◌, append-nil}
+use Rattle.std.proofs.Common.{◌≡◌, ℕ, Bool, true, false, ◌&&◌, ◌||◌, not, List, [], ◌∷◌, ◌++◌, Option, Some, refl, ap, sym, ◌∙◌, append_assoc, append-nil, ◌⊎◌, inl, inr}
 use Rattle.pc_syntax.specs.declared.lexeme.Lexeme.{Lexeme}
 use Rattle.pc_syntax.specs.declared.lexeme.Lexeme.TheVariants as lexeme
 use Rattle.pc_syntax.specs.declared.kind.Kind.{Kind}
 use Rattle.pc_syntax.specs.declared.kind.Kind.TheVariants as kind
+use Rattle.pc_syntax.specs.declared.sort.Sort.{Sort}
+use Rattle.pc_syntax.specs.declared.sort.Sort.TheVariants as sort
 use Rattle.pc_syntax.specs.declared.class.Class.TheVariants as class
+use Rattle.pc_syntax.specs.declared.item.Item.{Item}
 use Rattle.pc_syntax.specs.declared.item.Item.TheVariants.{Literal, Kid}
-use Rattle.pc_syntax.specs.Plain.{Forest, Nil, Cons, count, kinds}
+use Rattle.pc_syntax.specs.Plain.{Forest, Nil, Cons, count, kinds, trees_of}
 use Rattle.pc_syntax.specs.Classes.{has}
-use Rattle.pc_syntax.specs.Layout.{further}
+use Rattle.pc_syntax.specs.Layout.{operator, further}
+use Rattle.pc_syntax.specs.Spellings.{spelling_of}
 use Rattle.pc_syntax.specs.Symbols.{fill, texts, symbols}
-use Rattle.pc_syntax.specs.WellFormed.{fits_some, second_open}
+use Rattle.pc_syntax.specs.WellFormed.{fits, fits_some, second_open}
 use Rattle.pc_parse.specs.Lookahead.{look}
 use Rattle.pc_parse.specs.Reading.{lay}
-use Rattle.pc_parse.specs.Tables.{Blank, start, Enter, grow}
+use Rattle.pc_parse.specs.Tables.{Open, Blank, start, Enter, grow}
+use Rattle.pc_parse.specs.Machine.{frame, Reading, Holding}
+use Rattle.pc_parse.specs.Runs.{Go, step}
 use Rattle.pc_parse.proofs.Entries.{&&_split, &&_join}
-use Rattle.pc_parse.proofs.Follows.{ends_statement, ends_stmts}
-use Rattle.pc_parse.proofs.TableTests.{same_look, same_look_eq, or_left, or_right, grows_at, opens_at, only_at, one_at, at_whenever, blank_to, blank_to_eq, enters_to, enters_to_eq}
-use Rattle.pc_parse.proofs.Simulates.{Found, AllRead, Okay, halts, first}
-use Rattle.pc_parse.proofs.Nodes.{true-false, quiet_plain, okay_of, opened, predicted, blank, entered, straight, led, tracks_self, tracks_open, tracks_closed, inner_further, plain_further}
+use Rattle.pc_parse.proofs.Follows.{known, corner, tail, ends_statement, ends_stmts}
+use Rattle.pc_parse.proofs.TableTests.{same_look, same_look_eq, or_left, or_right, grows_at, opens_from, opens_at, operator_found, only_at, one_at, at_whenever, blank_to, blank_to_eq, enters_to, enters_to_eq}
+use Rattle.pc_parse.proofs.Simulates.{bare, trees_back, mark, Begins, Found, AllRead, Okay, halts, first, arrive, reads_front, reads_items}
+use Rattle.pc_parse.proofs.Leading.{one, onward}
+use Rattle.pc_parse.proofs.Nodes.{or_split, last_open_after, true-false, quiet_plain, okay_of, opened, predicted, blank, entered, straight, led, tracks_self, tracks_open, tracks_closed, inner_further, plain_further}
+use Rattle.pc_parse.proofs.Fronts.{by_name, around_fits}
 
 -- what is asked of each kind
 abbrev pub IsFound : Kind → Type 0
 IsFound k = (w : List ℕ) (ks : Forest) → fits_some (lay k w (count ks)) (kinds ks) ≡ true → AllRead ks → Found k w ks
+
+holes_open : (r : Sort) → opens_from (kind.Hole r) (kind.Hole r) [] (Some (lexeme.Hole r)) [] ≡ true
+holes_open sort.Program = refl
+holes_open _ = refl
+
+pub hole : (r : Sort) → IsFound (kind.Hole r)
+hole r [] ks fit all root c st m fs rest begins awaits cor tl quiet =
+    straight root (kind.Hole r) [] ks (lexeme.Hole r) [] c st fs rest refl (opens_at (kind.Hole r) (kind.Hole r) [] (Some (lexeme.Hole r)) [] c (holes_open r) cor) refl begins all fit refl (λ p e. true-false p) refl
+hole r (b ∷ w) ks fit all root c st m fs rest begins awaits cor tl quiet = cc
 
 pub empty : IsFound kind.Empty
 empty [] Nil fit all root c st m fs rest begins awaits cor tl quiet =
@@ -43,6 +60,93 @@ while_loop [] ks fit all root c st m fs rest begins awaits cor tl quiet =
     let l = Kid class.Expression ∷ Literal lexeme.KeyDo ∷ Kid class.Statement ∷ [] in
     straight root kind.While [] ks lexeme.KeyWhile l c st fs rest refl (opens_at kind.While kind.While [] (Some lexeme.KeyWhile) l c refl cor) refl begins all fit tl (λ p e. quiet.closed e) refl
 while_loop (b ∷ w) ks fit all root c st m fs rest begins awaits cor tl quiet = cc
+
+pub repeat_until : IsFound kind.Repeat
+repeat_until [] ks fit all root c st m fs rest begins awaits cor tl quiet =
+    let l = Kid class.Stmts ∷ Literal lexeme.KeyUntil ∷ Kid class.Expression ∷ [] in
+    straight root kind.Repeat [] ks lexeme.KeyRepeat l c st fs rest refl (opens_at kind.Repeat kind.Repeat [] (Some lexeme.KeyRepeat) l c refl cor) refl begins all fit tl (λ p e. true-false p) refl
+repeat_until (b ∷ w) ks fit all root c st m fs rest begins awaits cor tl quiet = cc
+
+pub with_do : IsFound kind.With
+with_do [] ks fit all root c st m fs rest begins awaits cor tl quiet =
+    let l = Kid class.Accesses ∷ Literal lexeme.KeyDo ∷ Kid class.Statement ∷ [] in
+    straight root kind.With [] ks lexeme.KeyWith l c st fs rest refl (opens_at kind.With kind.With [] (Some lexeme.KeyWith) l c refl cor) refl begins all fit tl (λ p e. quiet.closed e) refl
+with_do (b ∷ w) ks fit all root c st m fs rest begins awaits cor tl quiet = cc
+
+-- the items of a loop after its first symbol
+abbrev loop_items : Lexeme → List Item
+loop_items x = Kid class.Name ∷ Literal lexeme.Becomes ∷ Kid class.Expression ∷ Literal x ∷ Kid class.Expression ∷ Literal lexeme.KeyDo ∷ Kid class.Statement ∷ []
+
+for_to : (ks : Forest) → fits (loop_items lexeme.KeyTo) (kinds ks) ≡ true → AllRead ks → Found kind.For (spelling_of lexeme.KeyTo) ks
+for_to ks fit all root c st m fs rest begins awaits cor tl quiet =
+    let l = loop_items lexeme.KeyTo in
+    let up = spelling_of lexeme.KeyTo in
+    straight root kind.For up ks lexeme.KeyFor l c st fs rest refl (opens_at kind.For kind.For up (Some lexeme.KeyFor) l c refl cor) refl begins all fit tl (λ p e. quiet.closed e) refl
+
+for_downto : (ks : Forest) → fits (loop_items lexeme.KeyDownto) (kinds ks) ≡ true → AllRead ks → Found kind.For (spelling_of lexeme.KeyDownto) ks
+for_downto Nil fit all root c st m fs rest begins awaits cor tl quiet = cc
+for_downto (Cons a u os hs Nil) fit all root c st m fs rest begins awaits cor tl quiet = true-false (sym (&&_split _ _ fit).1)
+for_downto (Cons a u os hs (Cons b v ps bs ts)) fit all root c st m fs rest begins awaits cor tl quiet =
+    let up = spelling_of lexeme.KeyTo in
+    let down = spelling_of lexeme.KeyDownto in
+    let l1 = Kid class.Name ∷ Literal lexeme.Becomes ∷ Kid class.Expression ∷ [] in
+    let l2 = Kid class.Expression ∷ Literal lexeme.KeyDo ∷ Kid class.Statement ∷ [] in
+    let n = loop_items lexeme.KeyTo in
+    let two = Cons a u os hs (Cons b v ps bs Nil) in
+    let first_name = symbols a u hs in
+    let first_bound = symbols b v bs in
+    let behind = mark lexeme.KeyDownto ∷ fill l2 down (texts ts) in
+    let more = behind ++ rest in
+    let fit2 = &&_split _ _ fit in
+    let fit3 = &&_split _ _ fit2.1 in
+    let fit_two : fits l1 (kinds two) ≡ true = &&_join _ _ fit2.0 (&&_join _ _ fit3.0 refl) in
+    let all_two : AllRead two = (all.0, all.1, all.2, all.3, (all.4.0, all.4.1, all.4.2, all.4.3, tt)) in
+    let left : (first_name ++ (mark lexeme.Becomes ∷ (first_bound ++ behind))) ++ rest ≡ first_name ++ (mark lexeme.Becomes ∷ (first_bound ++ more)) =
+    append_assoc first_name (mark lexeme.Becomes ∷ (first_bound ++ behind)) rest ∙ ap (λ z. first_name ++ (mark lexeme.Becomes ∷ z)) (append_assoc first_bound behind rest) in
+    let right : fill l1 up (texts two) ++ more ≡ first_name ++ (mark lexeme.Becomes ∷ (first_bound ++ more)) =
+    append_assoc first_name (mark lexeme.Becomes ∷ (first_bound ++ [])) more ∙ ap (λ z. first_name ++ (mark lexeme.Becomes ∷ (z ++ more))) (append-nil first_bound) in
+    let input : symbols kind.For down (Cons a u os hs (Cons b v ps bs ts)) ++ rest ≡ mark lexeme.KeyFor ∷ (fill l1 up (texts two) ++ more) = ap (λ ys. mark lexeme.KeyFor ∷ ys) (left ∙ sym right) in
+    let begun : Begins root st c fs (mark lexeme.KeyFor ∷ (fill l1 up (texts two) ++ more)) = rw input at begins in
+    let opening : start c (Some lexeme.KeyFor) ≡ Open kind.For up n = opens_at kind.For kind.For up (Some lexeme.KeyFor) n c refl cor in
+    let next : step root st (mark lexeme.KeyFor ∷ (fill l1 up (texts two) ++ more)) ≡ Go (Reading (frame kind.For up [] n) fs) (fill l1 up (texts two) ++ more) = begun ∙ rw opening refl in
+    let turn : step root (Reading (frame kind.For up (trees_of two) (Literal lexeme.KeyTo ∷ l2)) fs) more ≡ Go (Reading (frame kind.For down (trees_of two) l2) fs) (fill l2 down (texts ts) ++ rest) = refl in
+    let okay_two : Okay l1 up two more = okay_of l1 up two more fit_two refl (λ p e. true-false p) in
+    let okay_rest : Okay l2 down ts rest = okay_of l2 down ts rest fit3.1 tl (λ p e. last_open_after b v ps bs ts (quiet.closed e)) in
+    rw input
+    (onward (one root _ _ _ _ next)
+    (onward (reads_front root l1 two kind.For n kind.For (Literal lexeme.KeyTo ∷ l2) up [] fs more all_two fit_two okay_two (refl, (refl, (refl, refl))))
+    (onward (one root _ _ _ _ turn)
+    (arrive root _ _ _ _ _ (ap (λ us. Holding kind.For (bare kind.For down (Cons a u os hs (Cons b v ps bs us))) fs) (trees_back ts))
+    (reads_items root l2 ts kind.For l2 kind.For down (trees_of two) fs rest all.4.4 fit3.1 okay_rest (tracks_self kind.For l2 refl) refl)))))
+
+abbrev loops : List Lexeme
+loops = lexeme.KeyTo ∷ lexeme.KeyDownto ∷ []
+
+or_last : (b : Bool) → b || false ≡ true → b ≡ true
+or_last true h = refl
+or_last false h = cc
+
+same_lexeme : (x y : Lexeme) → same_look (Some x) (Some y) ≡ true → x ≡ y
+same_lexeme x y h = let e : Some x ≡ Some y = same_look_eq (Some x) (Some y) h in cc
+
+pub for_loop : IsFound kind.For
+for_loop w ks fit all =
+    let a = around_fits (operator loops w) (Literal lexeme.KeyFor ∷ Kid class.Name ∷ Literal lexeme.Becomes ∷ Kid class.Expression ∷ []) (Kid class.Expression ∷ Literal lexeme.KeyDo ∷ Kid class.Statement ∷ []) (kinds ks) fit in
+    let found = operator_found loops w a.0 a.1 in
+    go a.0 found.0 a.2 (or_split (same_look (Some lexeme.KeyTo) (Some a.0)) (same_look (Some lexeme.KeyDownto) (Some a.0) || false) found.1)
+  where
+    go : (x : Lexeme) → w ≡ spelling_of x → fits (loop_items x) (kinds ks) ≡ true
+        → (same_look (Some lexeme.KeyTo) (Some x) ≡ true) ⊎ (same_look (Some lexeme.KeyDownto) (Some x) || false ≡ true) → Found kind.For w ks
+    go x e f (inl s) =
+        let i : lexeme.KeyTo ≡ x = same_lexeme lexeme.KeyTo x s in
+        let g : fits (loop_items lexeme.KeyTo) (kinds ks) ≡ true = rw (← i) at f in
+        let o : w ≡ spelling_of lexeme.KeyTo = e ∙ ap spelling_of (sym i) in
+        rw o (for_to ks g all)
+    go x e f (inr s) =
+        let i : lexeme.KeyDownto ≡ x = same_lexeme lexeme.KeyDownto x (or_last _ s) in
+        let g : fits (loop_items lexeme.KeyDownto) (kinds ks) ≡ true = rw (← i) at f in
+        let o : w ≡ spelling_of lexeme.KeyDownto = e ∙ ap spelling_of (sym i) in
+        rw o (for_downto ks g all)
 
 -- an if without else ends before what isn't else
 if_ends : (x : Option Lexeme) → (x ≡ Some lexeme.KeyElse → true ≡ false) → halts kind.If x ≡ true
@@ -111,14 +215,16 @@ proc [] (Cons i v ns is (Cons j u ms js ts)) fit all root c st m fs rest begins 
     let more = fill l [] (texts ks) ++ rest in
     let fit2 = &&_split _ _ fit in
     let fit3 = &&_split _ _ fit2.1 in
-    let e : i ≡ kind.Name = one_at class.Name kind.Name i refl (&&_join _ _ fit2.0 all.0) in
+    let member : has class.Name i && known i ≡ true = &&_join _ _ fit2.0 all.0 in
     let g : c ≡ class.Statement = only_at kind.Proc class.Statement c refl cor in
     let argument : j ≡ kind.Args = one_at class.Args kind.Args j refl (&&_join _ _ fit3.0 all.4.0) in
     let input : more ≡ symbols j u js ++ rest = ap (λ ys. ys ++ rest) (append-nil (symbols j u js)) in
     let begun : first kind.Args (look rest) (look more) ≡ true = ap (λ ys. first kind.Args (look rest) (look ys)) input ∙ ap (λ o. first o (look rest) (look (symbols j u js ++ rest))) (sym argument) ∙ all.4.2 rest in
     let may : may_call (look more) ≡ true = call_look (look rest) (look more) begun tl in
-    let grows : grow i c (look more) ≡ Enter kind.Proc l = rw (e, g) (enters_to_eq _ _ _ (at_whenever may_call (λ x. enters_to (grow kind.Name class.Statement x) kind.Proc l) (look more) refl may)) in
-    entered root kind.Proc i v ns is ks class.Name l c st m fs rest refl (rw (e, g) refl) (rw e refl) grows (quiet_plain class.Name i is (look more) fit2.0 refl) begins awaits all fit2.1
+    let grows : grow i c (look more) ≡ Enter kind.Proc l = rw g (by_name (λ o. grow o class.Statement (look more) ≡ Enter kind.Proc l)
+    (enters_to_eq _ _ _ (at_whenever may_call (λ x. enters_to (grow kind.Name class.Statement x) kind.Proc l) (look more) refl may))
+    (enters_to_eq _ _ _ (at_whenever may_call (λ x. enters_to (grow (kind.Hole sort.Name) class.Statement x) kind.Proc l) (look more) refl may)) i member) in
+    entered root kind.Proc i v ns is ks class.Name l c st m fs rest refl (rw g (by_name (λ o. corner class.Statement o ≡ true) refl refl i member)) (by_name (λ o. tail c o (look more) ≡ true) refl refl i member) grows (quiet_plain class.Name i is (look more) fit2.0 refl) begins awaits all fit2.1
     (okay_of l [] ks rest fit2.1 tl (λ p h. true-false p)) (tracks_self kind.Proc l refl) refl
 proc (b ∷ w) ks fit all root c st m fs rest begins awaits cor tl quiet = cc
 

@@ -15,20 +15,58 @@ use Rattle.pc_parse.specs.declared.error.ParseError.TheVariants.{NotYet, NotFit,
 
 -- whether the symbol is one of those that are read so far
 abbrev pub is_read_so_far : Lexeme → Bool
-is_read_so_far lexeme.KeyProgram = true
-is_read_so_far lexeme.KeyVar = true
+is_read_so_far lexeme.KeyAnd = true
 is_read_so_far lexeme.KeyBegin = true
+is_read_so_far lexeme.KeyDiv = true
+is_read_so_far lexeme.KeyDo = true
+is_read_so_far lexeme.KeyElse = true
 is_read_so_far lexeme.KeyEnd = true
-is_read_so_far lexeme.Semicolon = true
-is_read_so_far lexeme.Colon = true
+is_read_so_far lexeme.KeyIf = true
+is_read_so_far lexeme.KeyIn = true
+is_read_so_far lexeme.KeyMod = true
+is_read_so_far lexeme.KeyOr = true
+is_read_so_far lexeme.KeyProgram = true
+is_read_so_far lexeme.KeyThen = true
+is_read_so_far lexeme.KeyVar = true
+is_read_so_far lexeme.KeyWhile = true
+is_read_so_far lexeme.Plus = true
+is_read_so_far lexeme.Minus = true
+is_read_so_far lexeme.Star = true
+is_read_so_far lexeme.Equal = true
+is_read_so_far lexeme.Less = true
+is_read_so_far lexeme.Greater = true
+is_read_so_far lexeme.OpenBracket = true
+is_read_so_far lexeme.CloseBracket = true
+is_read_so_far lexeme.Dot = true
 is_read_so_far lexeme.Comma = true
+is_read_so_far lexeme.Colon = true
+is_read_so_far lexeme.Semicolon = true
 is_read_so_far lexeme.OpenParen = true
 is_read_so_far lexeme.CloseParen = true
-is_read_so_far lexeme.Plus = true
-is_read_so_far lexeme.Dot = true
+is_read_so_far lexeme.Unequal = true
+is_read_so_far lexeme.AtMost = true
+is_read_so_far lexeme.AtLeast = true
 is_read_so_far lexeme.Becomes = true
 is_read_so_far lexeme.Identifier = true
 is_read_so_far lexeme.Numeral = true
+is_read_so_far lexeme.KeyNil = true
+is_read_so_far lexeme.KeyNot = true
+is_read_so_far lexeme.Caret = true
+is_read_so_far lexeme.Text = true
+is_read_so_far lexeme.KeyRepeat = true
+is_read_so_far lexeme.KeyUntil = true
+is_read_so_far lexeme.KeyWith = true
+is_read_so_far lexeme.DotDot = true
+is_read_so_far (lexeme.Hole s) = true
+is_read_so_far lexeme.KeyConst = true
+is_read_so_far lexeme.KeyFor = true
+is_read_so_far lexeme.KeyTo = true
+is_read_so_far lexeme.KeyDownto = true
+is_read_so_far lexeme.KeyType = true
+is_read_so_far lexeme.KeyArray = true
+is_read_so_far lexeme.KeyOf = true
+is_read_so_far lexeme.KeySet = true
+is_read_so_far lexeme.KeyPacked = true
 is_read_so_far _ = false
 
 abbrev pub no_notes : List Span → Bool

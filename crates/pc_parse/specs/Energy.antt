@@ -28,7 +28,10 @@ kid_energy class.Routines = 2
 kid_energy class.Vardef = 4
 kid_energy class.Statement = 2
 kid_energy class.Names = 3
+kid_energy class.Indexes = 3
 kid_energy class.Exprs = 3
+kid_energy class.Accesses = 3
+kid_energy class.Members = 3
 kid_energy class.Stmts = 5
 kid_energy _ = 0
 

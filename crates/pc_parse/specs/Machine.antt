@@ -11,7 +11,7 @@ use Rattle.pc_syntax.specs.declared.item.Item.TheVariants.{Literal, Word, Kid}
 use Rattle.pc_syntax.specs.Classes.{has}
 use Rattle.pc_syntax.specs.Words.{is_forward}
 use Rattle.pc_parse.specs.Lookahead.{same_at}
-use Rattle.pc_parse.specs.Tables.{Start, Leaf, Open, Predict, Blank, NoStart, start, Grow, Give, Wrap, Shift, Enter, grow, switch, again}
+use Rattle.pc_parse.specs.Tables.{Start, Leaf, Open, Predict, Blank, NoStart, start, Grow, Give, Wrap, Shift, Enter, grow, switch, turned_word, again}
 
 -- the front of a node: the kids so far, and what is left of its items
 pub record Frame (A : Type 0) : Type 0 where
@@ -55,7 +55,7 @@ module _ {A : Type 0} (make : Kind → List ℕ → List A → A) where
 
   abbrev pub on_switch : Option (Kind × List Item) → Plan A → Frame A → List (Frame A) → Plan A
   on_switch None other f fs = other
-  on_switch (Some p) other f fs = Take (Reading (frame p.0 f.word f.kids p.1) fs)
+  on_switch (Some p) other f fs = Take (Reading (frame p.0 (turned_word p.0 f.word) f.kids p.1) fs)
 
   -- a node whose items are done ends, or begins a further element
   abbrev pub on_again : Option Class → Option Lexeme → List ℕ → Frame A → List (Frame A) → Plan A

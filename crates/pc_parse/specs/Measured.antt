@@ -9,7 +9,7 @@ use Rattle.pc_syntax.specs.declared.item.Item.TheVariants.{Literal, Word, Kid}
 use Rattle.pc_syntax.specs.Classes.{has}
 use Rattle.pc_parse.specs.declared.rows.Cut.{Cut}
 use Rattle.pc_parse.specs.Lookahead.{same_at}
-use Rattle.pc_parse.specs.Tables.{Start, Leaf, Open, Predict, Blank, NoStart, start, Grow, Give, Wrap, Shift, Enter, grow, switch, again}
+use Rattle.pc_parse.specs.Tables.{Start, Leaf, Open, Predict, Blank, NoStart, start, Grow, Give, Wrap, Shift, Enter, grow, switch, turned_word, again}
 use Rattle.pc_parse.specs.Machine.{leaf_word, awaited}
 use Rattle.pc_parse.specs.Rows.{Row, no_kids, made, added}
 
@@ -49,7 +49,7 @@ on_start NoStart w fs = Stuck
 
 abbrev pub on_switch : Option (Kind × List Item) → Plan → Frame → List Frame → Plan
 on_switch None other f fs = other
-on_switch (Some p) other f fs = Take (Reading (frame p.0 f.word f.kids p.1) fs)
+on_switch (Some p) other f fs = Take (Reading (frame p.0 (turned_word p.0 f.word) f.kids p.1) fs)
 
 abbrev pub on_again : Option Class → Option Lexeme → List ℕ → Frame → List Frame → Plan
 on_again None x w f fs = Stay (Holding f.kind (made f.kind f.word f.kids) fs)

@@ -1,7 +1,8 @@
 -- The trees that can be read so far, and what reading is.
 use Rattle.std.specs.Prelude.{◌≡◌, ℕ, ◌==◌, Bool, true, false, if◌then◌else◌, List, [], Option, None}
 use Rattle.pc_syntax.specs.declared.kind.Kind.{Kind}
-use Rattle.pc_syntax.specs.declared.kind.Kind.TheVariants.{Program, Block, Forward, Vardef, Tname, Enum, Empty, Assign, Proc, Compound, If, Ifelse, While, Ref, Index, Select, Number, Call, Parens, Mul, Add, Sign, Rel, Width, Name, Heads, Args, Names, Exprs, Vars, Stmts, Consts, Types, Routines}
+use Rattle.pc_syntax.specs.declared.kind.Kind.TheVariants as kind
+use Rattle.pc_syntax.specs.declared.kind.Kind.TheVariants.{Program, Block, Forward, Constdef, Typedef, Vardef, Tname, Enum, Subrange, Array, Setof, Packed, Pointer, Cnumber, Cstring, Cname, Csign, Empty, Assign, Proc, Compound, If, Ifelse, Repeat, While, For, With, Ref, Index, Select, Deref, Number, Text, Call, Parens, Not, Setcon, Mul, Add, Sign, Rel, Width, Span, Name, Heads, Args, Names, Indexes, Exprs, Accesses, Members, Vars, Stmts, Consts, Types, Routines, Hole}
 use Rattle.pc_syntax.specs.declared.class.Class.{Class}
 use Rattle.pc_syntax.specs.declared.class.Class.TheVariants as class
 use Rattle.pc_syntax.specs.declared.item.Item.{Item}
@@ -18,37 +19,61 @@ abbrev pub readable : Kind → ℕ → Bool
 readable Program n = true
 readable Block n = true
 readable Forward n = true
+readable Constdef n = true
+readable Typedef n = true
 readable Vardef n = true
 readable Tname n = true
 readable Enum n = true
+readable Subrange n = true
+readable Array n = true
+readable Setof n = true
+readable Packed n = true
+readable Pointer n = true
+readable Cnumber n = true
+readable Cstring n = true
+readable Cname n = true
+readable Csign n = true
 readable Empty n = true
 readable Assign n = true
 readable Proc n = true
 readable Compound n = true
 readable If n = true
 readable Ifelse n = true
+readable Repeat n = true
 readable While n = true
+readable For n = true
+readable With n = true
 readable Ref n = true
 readable Index n = true
 readable Select n = true
+readable Deref n = true
 readable Number n = true
+readable Text n = true
+readable kind.Nil n = true
 readable Call n = true
 readable Parens n = true
+readable Not n = true
+readable Setcon n = true
 readable Mul n = true
 readable Add n = true
 readable Sign n = true
 readable Rel n = true
 readable Width n = true
+readable Span n = true
 readable Name n = true
 readable Heads n = true
 readable Args n = true
 readable Names n = true
+readable Indexes n = true
 readable Exprs n = true
+readable Accesses n = true
+readable Members n = true
 readable Vars n = true
 readable Stmts n = true
-readable Consts n = n == 0
-readable Types n = n == 0
+readable Consts n = true
+readable Types n = true
 readable Routines n = n == 0
+readable (Hole s) n = true
 readable _ n = false
 
 -- what such a node is made of; none for a node that can't be read so far

@@ -3,12 +3,15 @@ use Rattle.std.specs.Prelude.{ℕ, Bool, true, false, ◌&&◌, if◌then◌else
 use Rattle.pc_syntax.specs.declared.lexeme.Lexeme.{Lexeme}
 use Rattle.pc_syntax.specs.declared.lexeme.Lexeme.TheVariants as lexeme
 use Rattle.pc_syntax.specs.declared.kind.Kind.{Kind}
-use Rattle.pc_syntax.specs.declared.kind.Kind.TheVariants.{Program, Block, Forward, Vardef, Tname, Enum, Empty, Assign, Proc, Compound, If, Ifelse, While, Ref, Index, Select, Number, Call, Parens, Mul, Add, Sign, Rel, Width, Name, Heads, Args, Names, Exprs, Vars, Stmts, Consts, Types, Routines}
+use Rattle.pc_syntax.specs.declared.kind.Kind.TheVariants.{Program, Block, Forward, Constdef, Typedef, Vardef, Tname, Enum, Subrange, Array, Setof, Packed, Pointer, Cnumber, Cstring, Cname, Csign, Empty, Assign, Proc, Compound, If, Ifelse, Repeat, While, For, With, Ref, Index, Select, Deref, Number, Text, Nil, Call, Parens, Not, Setcon, Mul, Add, Sign, Rel, Width, Span, Name, Heads, Args, Names, Indexes, Exprs, Accesses, Members, Vars, Stmts, Consts, Types, Routines, Hole}
 use Rattle.pc_syntax.specs.declared.class.Class.{Class}
 use Rattle.pc_syntax.specs.declared.class.Class.TheVariants as class
 use Rattle.pc_syntax.specs.declared.item.Item.{Item}
 use Rattle.pc_syntax.specs.declared.item.Item.TheVariants.{Literal, Kid}
+use Rattle.pc_syntax.specs.declared.sort.Sort.{Sort}
+use Rattle.pc_syntax.specs.declared.sort.Sort.TheVariants as sort
 use Rattle.pc_syntax.specs.Spellings.{spelling_of}
+use Rattle.pc_parse.specs.Lookahead.{same_at}
 
 -- how the kid of a class begins at a symbol: as a leaf or an opened node, which take it; as a node that begins with
 -- a kid; as a node without symbols; or not at all
@@ -19,18 +22,31 @@ pub data Start : Type 0 where
   Blank : Kind → Start
   NoStart : Start
 
+-- a sort whose nodes can't be read so far, but for its hole
+abbrev pub hole_start : Sort → Option Lexeme → Start
+hole_start s x = if same_at (lexeme.Hole s) x then Open (Hole s) [] [] else NoStart
+
 abbrev pub name_start : Option Lexeme → Start
 name_start (Some lexeme.Identifier) = Leaf Name
+name_start (Some (lexeme.Hole sort.Name)) = Open (Hole sort.Name) [] []
 name_start _ = NoStart
+
+abbrev pub access_start : Option Lexeme → Start
+access_start x = if same_at (lexeme.Hole sort.Expression) x then Open (Hole sort.Expression) [] [] else name_start x
 
 abbrev pub program_start : Option Lexeme → Start
 program_start (Some lexeme.KeyProgram) = Open Program [] (Kid class.Name ∷ Kid class.Heads ∷ Literal lexeme.Semicolon ∷ Kid class.Block ∷ Literal lexeme.Dot ∷ [])
+program_start (Some (lexeme.Hole sort.Program)) = Open (Hole sort.Program) [] []
 program_start _ = NoStart
 
 abbrev pub block_start : Option Lexeme → Start
 block_start (Some lexeme.Identifier) = Leaf Forward
+block_start (Some lexeme.KeyConst) = Predict Block (Kid class.Consts ∷ Kid class.Types ∷ Kid class.Vars ∷ Kid class.Routines ∷ Kid class.Body ∷ [])
+block_start (Some lexeme.KeyType) = Predict Block (Kid class.Consts ∷ Kid class.Types ∷ Kid class.Vars ∷ Kid class.Routines ∷ Kid class.Body ∷ [])
 block_start (Some lexeme.KeyVar) = Predict Block (Kid class.Consts ∷ Kid class.Types ∷ Kid class.Vars ∷ Kid class.Routines ∷ Kid class.Body ∷ [])
 block_start (Some lexeme.KeyBegin) = Predict Block (Kid class.Consts ∷ Kid class.Types ∷ Kid class.Vars ∷ Kid class.Routines ∷ Kid class.Body ∷ [])
+block_start (Some (lexeme.Hole sort.Block)) = Open (Hole sort.Block) [] []
+block_start (Some (lexeme.Hole sort.Statement)) = Predict Block (Kid class.Consts ∷ Kid class.Types ∷ Kid class.Vars ∷ Kid class.Routines ∷ Kid class.Body ∷ [])
 block_start _ = NoStart
 
 abbrev pub heads_start : Option Lexeme → Start
@@ -41,48 +57,115 @@ abbrev pub args_start : Option Lexeme → Start
 args_start (Some lexeme.OpenParen) = Open Args [] (Kid class.Argument ∷ Literal lexeme.CloseParen ∷ [])
 args_start _ = Blank Args
 
+abbrev pub consts_start : Option Lexeme → Start
+consts_start (Some lexeme.KeyConst) = Open Consts [] (Kid class.Constdef ∷ [])
+consts_start _ = Blank Consts
+
+abbrev pub constdef_start : Option Lexeme → Start
+constdef_start (Some lexeme.Identifier) = Leaf Name
+constdef_start (Some (lexeme.Hole sort.ConstDef)) = Open (Hole sort.ConstDef) [] []
+constdef_start (Some (lexeme.Hole sort.Name)) = Open (Hole sort.Name) [] []
+constdef_start _ = NoStart
+
+abbrev pub bare_start : Option Lexeme → Start
+bare_start (Some lexeme.Identifier) = Leaf Name
+bare_start (Some lexeme.Numeral) = Leaf Cnumber
+bare_start (Some (lexeme.Hole sort.Constant)) = Open (Hole sort.Constant) [] []
+bare_start (Some (lexeme.Hole sort.Name)) = Open (Hole sort.Name) [] []
+bare_start _ = NoStart
+
+abbrev pub constant_start : Option Lexeme → Start
+constant_start x =
+    if same_at lexeme.Text x then Leaf Cstring
+    else (if same_at lexeme.Plus x then Open Csign (spelling_of lexeme.Plus) (Kid class.Bare ∷ []) else (if same_at lexeme.Minus x then Open Csign (spelling_of lexeme.Minus) (Kid class.Bare ∷ []) else bare_start x))
+
+abbrev pub types_start : Option Lexeme → Start
+types_start (Some lexeme.KeyType) = Open Types [] (Kid class.Typedef ∷ [])
+types_start _ = Blank Types
+
+abbrev pub typedef_start : Option Lexeme → Start
+typedef_start (Some lexeme.Identifier) = Leaf Name
+typedef_start (Some (lexeme.Hole sort.TypeDef)) = Open (Hole sort.TypeDef) [] []
+typedef_start (Some (lexeme.Hole sort.Name)) = Open (Hole sort.Name) [] []
+typedef_start _ = NoStart
+
 abbrev pub vars_start : Option Lexeme → Start
 vars_start (Some lexeme.KeyVar) = Open Vars [] (Kid class.Vardef ∷ [])
 vars_start _ = Blank Vars
 
 abbrev pub vardef_start : Option Lexeme → Start
 vardef_start (Some lexeme.Identifier) = Predict Vardef (Kid class.Names ∷ Literal lexeme.Colon ∷ Kid class.Denoter ∷ Literal lexeme.Semicolon ∷ [])
+vardef_start (Some (lexeme.Hole sort.VarDef)) = Open (Hole sort.VarDef) [] []
+vardef_start (Some (lexeme.Hole sort.Name)) = Predict Vardef (Kid class.Names ∷ Literal lexeme.Colon ∷ Kid class.Denoter ∷ Literal lexeme.Semicolon ∷ [])
 vardef_start _ = NoStart
 
+abbrev pub ordinal_start : Option Lexeme → Start
+ordinal_start x =
+    if same_at lexeme.OpenParen x then Open Enum [] (Kid class.Names ∷ Literal lexeme.CloseParen ∷ [])
+    else (if same_at (lexeme.Hole sort.Denoter) x then Open (Hole sort.Denoter) [] [] else constant_start x)
+
+abbrev pub structured_start : Option Lexeme → Start
+structured_start (Some lexeme.KeyArray) = Open Array [] (Literal lexeme.OpenBracket ∷ Kid class.Indexes ∷ Literal lexeme.CloseBracket ∷ Literal lexeme.KeyOf ∷ Kid class.Denoter ∷ [])
+structured_start (Some lexeme.KeySet) = Open Setof [] (Literal lexeme.KeyOf ∷ Kid class.Ordinal ∷ [])
+structured_start (Some (lexeme.Hole sort.Denoter)) = Open (Hole sort.Denoter) [] []
+structured_start _ = NoStart
+
+abbrev pub is_structure : Option Lexeme → Bool
+is_structure (Some lexeme.KeyArray) = true
+is_structure (Some lexeme.KeySet) = true
+is_structure _ = false
+
 abbrev pub denoter_start : Option Lexeme → Start
-denoter_start (Some lexeme.Identifier) = Leaf Name
-denoter_start (Some lexeme.OpenParen) = Open Enum [] (Kid class.Names ∷ Literal lexeme.CloseParen ∷ [])
-denoter_start _ = NoStart
+denoter_start x =
+    if same_at lexeme.KeyPacked x then Open Packed [] (Kid class.Structured ∷ [])
+    else (if same_at lexeme.Caret x then Open Pointer [] (Kid class.Name ∷ []) else (if is_structure x then structured_start x else ordinal_start x))
 
 abbrev pub body_start : Option Lexeme → Start
 body_start (Some lexeme.KeyBegin) = Open Compound [] (Kid class.Stmts ∷ Literal lexeme.KeyEnd ∷ [])
+body_start (Some (lexeme.Hole sort.Statement)) = Open (Hole sort.Statement) [] []
 body_start _ = NoStart
 
 abbrev pub statement_start : Option Lexeme → Start
 statement_start (Some lexeme.Identifier) = Leaf Name
 statement_start (Some lexeme.KeyBegin) = Open Compound [] (Kid class.Stmts ∷ Literal lexeme.KeyEnd ∷ [])
 statement_start (Some lexeme.KeyIf) = Open If [] (Kid class.Expression ∷ Literal lexeme.KeyThen ∷ Kid class.Statement ∷ [])
+statement_start (Some lexeme.KeyRepeat) = Open Repeat [] (Kid class.Stmts ∷ Literal lexeme.KeyUntil ∷ Kid class.Expression ∷ [])
 statement_start (Some lexeme.KeyWhile) = Open While [] (Kid class.Expression ∷ Literal lexeme.KeyDo ∷ Kid class.Statement ∷ [])
+statement_start (Some lexeme.KeyFor) = Open For (spelling_of lexeme.KeyTo) (Kid class.Name ∷ Literal lexeme.Becomes ∷ Kid class.Expression ∷ Literal lexeme.KeyTo ∷ Kid class.Expression ∷ Literal lexeme.KeyDo ∷ Kid class.Statement ∷ [])
+statement_start (Some lexeme.KeyWith) = Open With [] (Kid class.Accesses ∷ Literal lexeme.KeyDo ∷ Kid class.Statement ∷ [])
+statement_start (Some (lexeme.Hole sort.Statement)) = Open (Hole sort.Statement) [] []
+statement_start (Some (lexeme.Hole sort.Expression)) = Open (Hole sort.Expression) [] []
+statement_start (Some (lexeme.Hole sort.Name)) = Open (Hole sort.Name) [] []
 statement_start _ = Blank Empty
 
 abbrev pub factor_start : Option Lexeme → Start
 factor_start (Some lexeme.Identifier) = Leaf Name
 factor_start (Some lexeme.Numeral) = Leaf Number
+factor_start (Some lexeme.Text) = Leaf Text
+factor_start (Some lexeme.KeyNil) = Open Nil [] []
+factor_start (Some lexeme.KeyNot) = Open Not [] (Kid class.Factor ∷ [])
 factor_start (Some lexeme.OpenParen) = Open Parens [] (Kid class.Expression ∷ Literal lexeme.CloseParen ∷ [])
+factor_start (Some lexeme.OpenBracket) = Open Setcon [] (Kid class.Members ∷ Literal lexeme.CloseBracket ∷ [])
+factor_start (Some (lexeme.Hole sort.Expression)) = Open (Hole sort.Expression) [] []
+factor_start (Some (lexeme.Hole sort.Name)) = Open (Hole sort.Name) [] []
 factor_start _ = NoStart
 
 abbrev pub simple_start : Option Lexeme → Start
-simple_start (Some lexeme.Plus) = Open Sign (spelling_of lexeme.Plus) (Kid class.Term ∷ [])
-simple_start (Some lexeme.Minus) = Open Sign (spelling_of lexeme.Minus) (Kid class.Term ∷ [])
-simple_start x = factor_start x
+simple_start x =
+    if same_at lexeme.Plus x then Open Sign (spelling_of lexeme.Plus) (Kid class.Term ∷ [])
+    else (if same_at lexeme.Minus x then Open Sign (spelling_of lexeme.Minus) (Kid class.Term ∷ []) else factor_start x)
+
+abbrev pub members_start : Option Lexeme → Start
+members_start (Some lexeme.CloseBracket) = Blank Members
+members_start _ = Predict Members (Kid class.Member ∷ [])
 
 abbrev pub start : Class → Option Lexeme → Start
 start class.Program x = program_start x
 start class.Block x = block_start x
 start class.Heads x = heads_start x
 start class.Args x = args_start x
-start class.Consts x = Blank Consts
-start class.Types x = Blank Types
+start class.Consts x = consts_start x
+start class.Types x = types_start x
 start class.Vars x = vars_start x
 start class.Routines x = Blank Routines
 start class.Vardef x = vardef_start x
@@ -90,15 +173,29 @@ start class.Denoter x = denoter_start x
 start class.Body x = body_start x
 start class.Statement x = statement_start x
 start class.Name x = name_start x
-start class.Access x = name_start x
+start class.Access x = access_start x
 start class.Factor x = factor_start x
 start class.Term x = factor_start x
 start class.Simple x = simple_start x
 start class.Expression x = simple_start x
 start class.Argument x = simple_start x
+start class.Member x = simple_start x
+start class.Members x = members_start x
 start class.Names x = Predict Names (Kid class.Name ∷ [])
 start class.Exprs x = Predict Exprs (Kid class.Expression ∷ [])
+start class.Accesses x = Predict Accesses (Kid class.Access ∷ [])
 start class.Stmts x = Predict Stmts (Kid class.Statement ∷ [])
+start class.Constdef x = constdef_start x
+start class.Typedef x = typedef_start x
+start class.Structured x = structured_start x
+start class.Ordinal x = ordinal_start x
+start class.Indexes x = Predict Indexes (Kid class.Ordinal ∷ [])
+start class.Routine x = hole_start sort.Routine x
+start class.Parameter x = hole_start sort.Parameter x
+start class.Field x = hole_start sort.Field x
+start class.Constant x = constant_start x
+start class.Bare x = bare_start x
+start class.Arm x = hole_start sort.Arm x
 start _ x = NoStart
 
 -- what becomes of a finished node where a kid of a class is awaited: it is given as that kid; or it becomes the first
@@ -141,13 +238,22 @@ abbrev pub is_colon : Option Lexeme → Bool
 is_colon (Some lexeme.Colon) = true
 is_colon _ = false
 
--- whether a relation, a sum, a product may stand where the class is awaited
+abbrev pub is_range : Option Lexeme → Bool
+is_range (Some lexeme.DotDot) = true
+is_range _ = false
+
+-- whether a width, a span, a relation, a sum, a product may stand where the class is awaited
 abbrev pub takes_width : Class → Bool
 takes_width class.Argument = true
 takes_width _ = false
 
+abbrev pub takes_span : Class → Bool
+takes_span class.Member = true
+takes_span _ = false
+
 abbrev pub takes_relation : Class → Bool
 takes_relation class.Expression = true
+takes_relation class.Member = true
 takes_relation c = takes_width c
 
 abbrev pub takes_sum : Class → Bool
@@ -159,7 +265,9 @@ takes_product class.Term = true
 takes_product c = takes_sum c
 
 abbrev pub grow_relation : Class → Option Lexeme → Grow
-grow_relation c x = if takes_width c && is_colon x then Shift Width [] (Kid class.Expression ∷ []) else Give
+grow_relation c x =
+    if takes_width c && is_colon x then Shift Width [] (Kid class.Expression ∷ [])
+    else (if takes_span c && is_range x then Shift Span [] (Kid class.Expression ∷ []) else Give)
 
 abbrev pub grow_simple : Class → Option Lexeme → Grow
 grow_simple c x =
@@ -176,6 +284,7 @@ grow_target c g = g
 abbrev pub grow_access : Class → Option Lexeme → Grow
 grow_access c (Some lexeme.OpenBracket) = Shift Index [] (Kid class.Exprs ∷ Literal lexeme.CloseBracket ∷ [])
 grow_access c (Some lexeme.Dot) = Shift Select [] (Kid class.Name ∷ [])
+grow_access c (Some lexeme.Caret) = Shift Deref [] []
 grow_access c (Some lexeme.Becomes) = grow_target c Give
 grow_access c x = grow_term c x
 
@@ -183,22 +292,51 @@ abbrev pub grow_statement_name : Option Lexeme → Grow
 grow_statement_name (Some lexeme.Becomes) = Wrap Ref
 grow_statement_name (Some lexeme.OpenBracket) = Wrap Ref
 grow_statement_name (Some lexeme.Dot) = Wrap Ref
+grow_statement_name (Some lexeme.Caret) = Wrap Ref
 grow_statement_name _ = Enter Proc (Kid class.Args ∷ [])
 
 abbrev pub grow_factor_name : Option Lexeme → Grow
 grow_factor_name (Some lexeme.OpenParen) = Shift Call [] (Kid class.Exprs ∷ Literal lexeme.CloseParen ∷ [])
 grow_factor_name _ = Wrap Ref
 
+abbrev pub grow_defined_name : Option Lexeme → Grow
+grow_defined_name (Some lexeme.Equal) = Shift Constdef [] (Kid class.Constant ∷ Literal lexeme.Semicolon ∷ [])
+grow_defined_name _ = Give
+
+abbrev pub grow_defined_type : Option Lexeme → Grow
+grow_defined_type (Some lexeme.Equal) = Shift Typedef [] (Kid class.Denoter ∷ Literal lexeme.Semicolon ∷ [])
+grow_defined_type _ = Give
+
+-- the name of a type, or the first bound of a subrange
+abbrev pub grow_type_name : Option Lexeme → Grow
+grow_type_name (Some lexeme.DotDot) = Wrap Cname
+grow_type_name _ = Wrap Tname
+
+abbrev pub grow_range : Option Lexeme → Grow
+grow_range (Some lexeme.DotDot) = Shift Subrange [] (Kid class.Constant ∷ [])
+grow_range _ = Give
+
+abbrev pub grow_bound : Class → Option Lexeme → Grow
+grow_bound class.Denoter x = grow_range x
+grow_bound class.Ordinal x = grow_range x
+grow_bound _ x = Give
+
 abbrev pub grow_name : Class → Option Lexeme → Grow
 grow_name class.Name x = Give
 grow_name class.Access x = Wrap Ref
-grow_name class.Denoter x = Wrap Tname
+grow_name class.Denoter x = grow_type_name x
+grow_name class.Ordinal x = grow_type_name x
+grow_name class.Typedef x = grow_defined_type x
+grow_name class.Constdef x = grow_defined_name x
+grow_name class.Constant x = Wrap Cname
+grow_name class.Bare x = Wrap Cname
 grow_name class.Statement x = grow_statement_name x
 grow_name class.Factor x = grow_factor_name x
 grow_name class.Term x = grow_factor_name x
 grow_name class.Simple x = grow_factor_name x
 grow_name class.Expression x = grow_factor_name x
 grow_name class.Argument x = grow_factor_name x
+grow_name class.Member x = grow_factor_name x
 grow_name _ x = Give
 
 abbrev pub grow : Kind → Class → Option Lexeme → Grow
@@ -206,26 +344,55 @@ grow Name c x = grow_name c x
 grow Ref c x = grow_access c x
 grow Index c x = grow_access c x
 grow Select c x = grow_access c x
+grow Deref c x = grow_access c x
 grow Number c x = grow_term c x
+grow Text c x = grow_term c x
+grow Nil c x = grow_term c x
 grow Call c x = grow_term c x
 grow Parens c x = grow_term c x
+grow Not c x = grow_term c x
+grow Setcon c x = grow_term c x
 grow Mul c x = grow_term c x
 grow Add c x = grow_simple c x
 grow Sign c x = grow_simple c x
 grow Rel c x = grow_relation c x
+grow Cnumber c x = grow_bound c x
+grow Cstring c x = grow_bound c x
+grow Cname c x = grow_bound c x
+grow Csign c x = grow_bound c x
+grow (Hole sort.Constant) c x = grow_bound c x
+grow (Hole sort.Expression) c x = grow_access c x
+grow (Hole sort.Name) c x = grow_name c x
 grow _ c x = Give
 
 -- how a node goes on at a symbol that isn't the next of its items, which it takes
 abbrev pub switch : Kind → List Item → Option Lexeme → Option (Kind × List Item)
 switch If [] (Some lexeme.KeyElse) = Some (Ifelse, (Kid class.Statement ∷ []))
+switch For (Literal lexeme.KeyTo ∷ m) (Some lexeme.KeyDownto) = Some (For, (Kid class.Expression ∷ Literal lexeme.KeyDo ∷ Kid class.Statement ∷ []))
 switch Stmts [] (Some lexeme.Semicolon) = Some (Stmts, (Kid class.Statement ∷ []))
+switch Indexes [] (Some lexeme.Comma) = Some (Indexes, (Kid class.Ordinal ∷ []))
 switch Exprs [] (Some lexeme.Comma) = Some (Exprs, (Kid class.Expression ∷ []))
+switch Accesses [] (Some lexeme.Comma) = Some (Accesses, (Kid class.Access ∷ []))
+switch Members [] (Some lexeme.Comma) = Some (Members, (Kid class.Member ∷ []))
 switch Names [] (Some lexeme.Comma) = Some (Names, (Kid class.Name ∷ []))
 switch Args (Literal lexeme.CloseParen ∷ []) (Some lexeme.Comma) = Some (Args, (Kid class.Argument ∷ Literal lexeme.CloseParen ∷ []))
 switch Heads (Literal lexeme.CloseParen ∷ []) (Some lexeme.Comma) = Some (Heads, (Kid class.Name ∷ Literal lexeme.CloseParen ∷ []))
 switch _ _ _ = None
 
+-- the word of a node that goes on so: a loop that was taken for one upwards goes downwards
+abbrev pub turned_word : Kind → List ℕ → List ℕ
+turned_word For w = spelling_of lexeme.KeyDownto
+turned_word _ w = w
+
 -- the class of a further element of a list without separators, where one begins at the symbol
 abbrev pub again : Kind → Option Lexeme → Option Class
+again Consts (Some lexeme.Identifier) = Some class.Constdef
+again Consts (Some (lexeme.Hole sort.ConstDef)) = Some class.Constdef
+again Consts (Some (lexeme.Hole sort.Name)) = Some class.Constdef
+again Types (Some lexeme.Identifier) = Some class.Typedef
+again Types (Some (lexeme.Hole sort.TypeDef)) = Some class.Typedef
+again Types (Some (lexeme.Hole sort.Name)) = Some class.Typedef
 again Vars (Some lexeme.Identifier) = Some class.Vardef
+again Vars (Some (lexeme.Hole sort.VarDef)) = Some class.Vardef
+again Vars (Some (lexeme.Hole sort.Name)) = Some class.Vardef
 again _ _ = None

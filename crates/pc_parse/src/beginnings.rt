@@ -1,10 +1,11 @@
 //! How a kid of a class begins at a symbol.
 
 ghost use Rattle.std.specs.Prelude.{◌≡◌};
-ghost use Rattle.pc_parse.specs.Tables.{start, name_start, program_start, block_start, heads_start, args_start, vars_start, vardef_start, denoter_start, body_start, statement_start, factor_start, simple_start};
+ghost use Rattle.pc_parse.specs.Tables.{start, hole_start, name_start, access_start, program_start, block_start, heads_start, args_start, consts_start, constdef_start, bare_start, constant_start, types_start, typedef_start, ordinal_start, structured_start, is_structure, vars_start, vardef_start, denoter_start, body_start, statement_start, factor_start, simple_start, members_start};
 ghost use Rattle.pc_parse.specs.Views.{start_view};
 
-use pc_syntax::{Class, Item, Kind, Lexeme};
+use crate::lexemes::comes_next;
+use pc_syntax::{Class, Item, Kind, Lexeme, Sort};
 
 /// How a kid of a class begins at a symbol: as a leaf or an opened node, which take it; as a node
 /// that begins with a kid; as a node without symbols; or not at all.
@@ -26,21 +27,58 @@ pub fn kid_beginning(class: Class, next: Option<Lexeme>) -> Beginning
         Class::Block => block_beginning(next),
         Class::Heads => heads_beginning(next),
         Class::Args => args_beginning(next),
-        Class::Consts => Beginning::Blank(Kind::Consts),
-        Class::Types => Beginning::Blank(Kind::Types),
+        Class::Consts => consts_beginning(next),
+        Class::Types => types_beginning(next),
         Class::Vars => vars_beginning(next),
         Class::Routines => Beginning::Blank(Kind::Routines),
         Class::Vardef => vardef_beginning(next),
         Class::Denoter => denoter_beginning(next),
         Class::Body => body_beginning(next),
         Class::Statement => statement_beginning(next),
-        Class::Name | Class::Access => name_beginning(next),
+        Class::Name => name_beginning(next),
+        Class::Access => access_beginning(next),
         Class::Factor | Class::Term => factor_beginning(next),
-        Class::Simple | Class::Expression | Class::Argument => simple_beginning(next),
+        Class::Simple | Class::Expression | Class::Argument | Class::Member => {
+            simple_beginning(next)
+        }
+        Class::Members => members_beginning(next),
         Class::Names => Beginning::Predict(Kind::Names, &[Item::Kid(Class::Name)]),
         Class::Exprs => Beginning::Predict(Kind::Exprs, &[Item::Kid(Class::Expression)]),
+        Class::Accesses => { Beginning::Predict(Kind::Accesses, &[Item::Kid(Class::Access)]) }
         Class::Stmts => Beginning::Predict(Kind::Stmts, &[Item::Kid(Class::Statement)]),
+        Class::Constdef => constdef_beginning(next),
+        Class::Typedef => typedef_beginning(next),
+        Class::Structured => structured_beginning(next),
+        Class::Ordinal => ordinal_beginning(next),
+        Class::Indexes => Beginning::Predict(Kind::Indexes, &[Item::Kid(Class::Ordinal)]),
+        Class::Routine => hole_beginning(Sort::Routine, next),
+        Class::Parameter => hole_beginning(Sort::Parameter, next),
+        Class::Field => hole_beginning(Sort::Field, next),
+        Class::Constant => constant_beginning(next),
+        Class::Bare => bare_beginning(next),
+        Class::Arm => hole_beginning(Sort::Arm, next),
         _ => Beginning::Nothing,
+    }
+}
+
+/// The hole of the sort.
+fn hole_beginning(sort: Sort, next: Option<Lexeme>) -> Beginning
+    ensures { start_view result ≡ hole_start sort next }
+{
+    if comes_next(Lexeme::Hole(sort), next) {
+        Beginning::Open(Kind::Hole(sort), b"", &[])
+    } else {
+        Beginning::Nothing
+    }
+}
+
+fn access_beginning(next: Option<Lexeme>) -> Beginning
+    ensures { start_view result ≡ access_start next }
+{
+    if comes_next(Lexeme::Hole(Sort::Expression), next) {
+        Beginning::Open(Kind::Hole(Sort::Expression), b"", &[])
+    } else {
+        name_beginning(next)
     }
 }
 
@@ -49,6 +87,7 @@ fn name_beginning(next: Option<Lexeme>) -> Beginning
 {
     match next {
         Some(Lexeme::Identifier) => Beginning::Leaf(Kind::Name),
+        Some(Lexeme::Hole(Sort::Name)) => Beginning::Open(Kind::Hole(Sort::Name), b"", &[]),
         _ => Beginning::Nothing,
     }
 }
@@ -68,6 +107,7 @@ fn program_beginning(next: Option<Lexeme>) -> Beginning
                 Item::Literal(Lexeme::Dot),
             ],
         ),
+        Some(Lexeme::Hole(Sort::Program)) => Beginning::Open(Kind::Hole(Sort::Program), b"", &[]),
         _ => Beginning::Nothing,
     }
 }
@@ -85,8 +125,12 @@ fn block_beginning(next: Option<Lexeme>) -> Beginning
 {
     match next {
         Some(Lexeme::Identifier) => Beginning::Leaf(Kind::Forward),
+        Some(Lexeme::KeyConst) => Beginning::Predict(Kind::Block, BLOCK),
+        Some(Lexeme::KeyType) => Beginning::Predict(Kind::Block, BLOCK),
         Some(Lexeme::KeyVar) => Beginning::Predict(Kind::Block, BLOCK),
         Some(Lexeme::KeyBegin) => Beginning::Predict(Kind::Block, BLOCK),
+        Some(Lexeme::Hole(Sort::Block)) => Beginning::Open(Kind::Hole(Sort::Block), b"", &[]),
+        Some(Lexeme::Hole(Sort::Statement)) => Beginning::Predict(Kind::Block, BLOCK),
         _ => Beginning::Nothing,
     }
 }
@@ -120,6 +164,74 @@ fn args_beginning(next: Option<Lexeme>) -> Beginning
     }
 }
 
+fn types_beginning(next: Option<Lexeme>) -> Beginning
+    ensures { start_view result ≡ types_start next }
+{
+    match next {
+        Some(Lexeme::KeyType) => { Beginning::Open(Kind::Types, b"", &[Item::Kid(Class::Typedef)]) }
+        _ => Beginning::Blank(Kind::Types),
+    }
+}
+
+fn typedef_beginning(next: Option<Lexeme>) -> Beginning
+    ensures { start_view result ≡ typedef_start next }
+{
+    match next {
+        Some(Lexeme::Identifier) => Beginning::Leaf(Kind::Name),
+        Some(Lexeme::Hole(Sort::TypeDef)) => Beginning::Open(Kind::Hole(Sort::TypeDef), b"", &[]),
+        Some(Lexeme::Hole(Sort::Name)) => Beginning::Open(Kind::Hole(Sort::Name), b"", &[]),
+        _ => Beginning::Nothing,
+    }
+}
+
+fn consts_beginning(next: Option<Lexeme>) -> Beginning
+    ensures { start_view result ≡ consts_start next }
+{
+    match next {
+        Some(Lexeme::KeyConst) => {
+            Beginning::Open(Kind::Consts, b"", &[Item::Kid(Class::Constdef)])
+        }
+        _ => Beginning::Blank(Kind::Consts),
+    }
+}
+
+fn constdef_beginning(next: Option<Lexeme>) -> Beginning
+    ensures { start_view result ≡ constdef_start next }
+{
+    match next {
+        Some(Lexeme::Identifier) => Beginning::Leaf(Kind::Name),
+        Some(Lexeme::Hole(Sort::ConstDef)) => Beginning::Open(Kind::Hole(Sort::ConstDef), b"", &[]),
+        Some(Lexeme::Hole(Sort::Name)) => Beginning::Open(Kind::Hole(Sort::Name), b"", &[]),
+        _ => Beginning::Nothing,
+    }
+}
+
+fn bare_beginning(next: Option<Lexeme>) -> Beginning
+    ensures { start_view result ≡ bare_start next }
+{
+    match next {
+        Some(Lexeme::Identifier) => Beginning::Leaf(Kind::Name),
+        Some(Lexeme::Numeral) => Beginning::Leaf(Kind::Cnumber),
+        Some(Lexeme::Hole(Sort::Constant)) => Beginning::Open(Kind::Hole(Sort::Constant), b"", &[]),
+        Some(Lexeme::Hole(Sort::Name)) => Beginning::Open(Kind::Hole(Sort::Name), b"", &[]),
+        _ => Beginning::Nothing,
+    }
+}
+
+fn constant_beginning(next: Option<Lexeme>) -> Beginning
+    ensures { start_view result ≡ constant_start next }
+{
+    if comes_next(Lexeme::Text, next) {
+        Beginning::Leaf(Kind::Cstring)
+    } else if comes_next(Lexeme::Plus, next) {
+        Beginning::Open(Kind::Csign, b"+", &[Item::Kid(Class::Bare)])
+    } else if comes_next(Lexeme::Minus, next) {
+        Beginning::Open(Kind::Csign, b"-", &[Item::Kid(Class::Bare)])
+    } else {
+        bare_beginning(next)
+    }
+}
+
 fn vars_beginning(next: Option<Lexeme>) -> Beginning
     ensures { start_view result ≡ vars_start next }
 {
@@ -129,34 +241,84 @@ fn vars_beginning(next: Option<Lexeme>) -> Beginning
     }
 }
 
+const VARDEF: &[Item] = &[
+    Item::Kid(Class::Names),
+    Item::Literal(Lexeme::Colon),
+    Item::Kid(Class::Denoter),
+    Item::Literal(Lexeme::Semicolon),
+];
+
 fn vardef_beginning(next: Option<Lexeme>) -> Beginning
     ensures { start_view result ≡ vardef_start next }
 {
     match next {
-        Some(Lexeme::Identifier) => Beginning::Predict(
-            Kind::Vardef,
-            &[
-                Item::Kid(Class::Names),
-                Item::Literal(Lexeme::Colon),
-                Item::Kid(Class::Denoter),
-                Item::Literal(Lexeme::Semicolon),
-            ],
-        ),
+        Some(Lexeme::Identifier) => Beginning::Predict(Kind::Vardef, VARDEF),
+        Some(Lexeme::Hole(Sort::VarDef)) => Beginning::Open(Kind::Hole(Sort::VarDef), b"", &[]),
+        Some(Lexeme::Hole(Sort::Name)) => Beginning::Predict(Kind::Vardef, VARDEF),
         _ => Beginning::Nothing,
+    }
+}
+
+fn ordinal_beginning(next: Option<Lexeme>) -> Beginning
+    ensures { start_view result ≡ ordinal_start next }
+{
+    if comes_next(Lexeme::OpenParen, next) {
+        Beginning::Open(
+            Kind::Enum,
+            b"",
+            &[Item::Kid(Class::Names), Item::Literal(Lexeme::CloseParen)],
+        )
+    } else if comes_next(Lexeme::Hole(Sort::Denoter), next) {
+        Beginning::Open(Kind::Hole(Sort::Denoter), b"", &[])
+    } else {
+        constant_beginning(next)
+    }
+}
+
+const ARRAY: &[Item] = &[
+    Item::Literal(Lexeme::OpenBracket),
+    Item::Kid(Class::Indexes),
+    Item::Literal(Lexeme::CloseBracket),
+    Item::Literal(Lexeme::KeyOf),
+    Item::Kid(Class::Denoter),
+];
+
+fn structured_beginning(next: Option<Lexeme>) -> Beginning
+    ensures { start_view result ≡ structured_start next }
+{
+    match next {
+        Some(Lexeme::KeyArray) => Beginning::Open(Kind::Array, b"", ARRAY),
+        Some(Lexeme::KeySet) => Beginning::Open(
+            Kind::Setof,
+            b"",
+            &[Item::Literal(Lexeme::KeyOf), Item::Kid(Class::Ordinal)],
+        ),
+        Some(Lexeme::Hole(Sort::Denoter)) => Beginning::Open(Kind::Hole(Sort::Denoter), b"", &[]),
+        _ => Beginning::Nothing,
+    }
+}
+
+fn is_structure(next: Option<Lexeme>) -> bool
+    ensures { result ≡ is_structure next }
+{
+    match next {
+        Some(Lexeme::KeyArray) => true,
+        Some(Lexeme::KeySet) => true,
+        _ => false,
     }
 }
 
 fn denoter_beginning(next: Option<Lexeme>) -> Beginning
     ensures { start_view result ≡ denoter_start next }
 {
-    match next {
-        Some(Lexeme::Identifier) => Beginning::Leaf(Kind::Name),
-        Some(Lexeme::OpenParen) => Beginning::Open(
-            Kind::Enum,
-            b"",
-            &[Item::Kid(Class::Names), Item::Literal(Lexeme::CloseParen)],
-        ),
-        _ => Beginning::Nothing,
+    if comes_next(Lexeme::KeyPacked, next) {
+        Beginning::Open(Kind::Packed, b"", &[Item::Kid(Class::Structured)])
+    } else if comes_next(Lexeme::Caret, next) {
+        Beginning::Open(Kind::Pointer, b"", &[Item::Kid(Class::Name)])
+    } else if is_structure(next) {
+        structured_beginning(next)
+    } else {
+        ordinal_beginning(next)
     }
 }
 
@@ -167,9 +329,36 @@ fn body_beginning(next: Option<Lexeme>) -> Beginning
 {
     match next {
         Some(Lexeme::KeyBegin) => Beginning::Open(Kind::Compound, b"", COMPOUND),
+        Some(Lexeme::Hole(Sort::Statement)) => Beginning::Open(
+            Kind::Hole(Sort::Statement),
+            b"",
+            &[],
+        ),
         _ => Beginning::Nothing,
     }
 }
+
+const REPEAT: &[Item] = &[
+    Item::Kid(Class::Stmts),
+    Item::Literal(Lexeme::KeyUntil),
+    Item::Kid(Class::Expression),
+];
+
+const FOR: &[Item] = &[
+    Item::Kid(Class::Name),
+    Item::Literal(Lexeme::Becomes),
+    Item::Kid(Class::Expression),
+    Item::Literal(Lexeme::KeyTo),
+    Item::Kid(Class::Expression),
+    Item::Literal(Lexeme::KeyDo),
+    Item::Kid(Class::Statement),
+];
+
+const WITH: &[Item] = &[
+    Item::Kid(Class::Accesses),
+    Item::Literal(Lexeme::KeyDo),
+    Item::Kid(Class::Statement),
+];
 
 fn statement_beginning(next: Option<Lexeme>) -> Beginning
     ensures { start_view result ≡ statement_start next }
@@ -195,6 +384,20 @@ fn statement_beginning(next: Option<Lexeme>) -> Beginning
                 Item::Kid(Class::Statement),
             ],
         ),
+        Some(Lexeme::KeyRepeat) => Beginning::Open(Kind::Repeat, b"", REPEAT),
+        Some(Lexeme::KeyFor) => Beginning::Open(Kind::For, b"to", FOR),
+        Some(Lexeme::KeyWith) => Beginning::Open(Kind::With, b"", WITH),
+        Some(Lexeme::Hole(Sort::Statement)) => Beginning::Open(
+            Kind::Hole(Sort::Statement),
+            b"",
+            &[],
+        ),
+        Some(Lexeme::Hole(Sort::Expression)) => Beginning::Open(
+            Kind::Hole(Sort::Expression),
+            b"",
+            &[],
+        ),
+        Some(Lexeme::Hole(Sort::Name)) => Beginning::Open(Kind::Hole(Sort::Name), b"", &[]),
         _ => Beginning::Blank(Kind::Empty),
     }
 }
@@ -205,6 +408,17 @@ fn factor_beginning(next: Option<Lexeme>) -> Beginning
     match next {
         Some(Lexeme::Identifier) => Beginning::Leaf(Kind::Name),
         Some(Lexeme::Numeral) => Beginning::Leaf(Kind::Number),
+        Some(Lexeme::Text) => Beginning::Leaf(Kind::Text),
+        Some(Lexeme::KeyNil) => Beginning::Open(Kind::Nil, b"", &[]),
+        Some(Lexeme::KeyNot) => Beginning::Open(Kind::Not, b"", &[Item::Kid(Class::Factor)]),
+        Some(Lexeme::OpenBracket) => Beginning::Open(
+            Kind::Setcon,
+            b"",
+            &[
+                Item::Kid(Class::Members),
+                Item::Literal(Lexeme::CloseBracket),
+            ],
+        ),
         Some(Lexeme::OpenParen) => Beginning::Open(
             Kind::Parens,
             b"",
@@ -213,6 +427,12 @@ fn factor_beginning(next: Option<Lexeme>) -> Beginning
                 Item::Literal(Lexeme::CloseParen),
             ],
         ),
+        Some(Lexeme::Hole(Sort::Expression)) => Beginning::Open(
+            Kind::Hole(Sort::Expression),
+            b"",
+            &[],
+        ),
+        Some(Lexeme::Hole(Sort::Name)) => Beginning::Open(Kind::Hole(Sort::Name), b"", &[]),
         _ => Beginning::Nothing,
     }
 }
@@ -220,9 +440,20 @@ fn factor_beginning(next: Option<Lexeme>) -> Beginning
 fn simple_beginning(next: Option<Lexeme>) -> Beginning
     ensures { start_view result ≡ simple_start next }
 {
+    if comes_next(Lexeme::Plus, next) {
+        Beginning::Open(Kind::Sign, b"+", &[Item::Kid(Class::Term)])
+    } else if comes_next(Lexeme::Minus, next) {
+        Beginning::Open(Kind::Sign, b"-", &[Item::Kid(Class::Term)])
+    } else {
+        factor_beginning(next)
+    }
+}
+
+fn members_beginning(next: Option<Lexeme>) -> Beginning
+    ensures { start_view result ≡ members_start next }
+{
     match next {
-        Some(Lexeme::Plus) => Beginning::Open(Kind::Sign, b"+", &[Item::Kid(Class::Term)]),
-        Some(Lexeme::Minus) => Beginning::Open(Kind::Sign, b"-", &[Item::Kid(Class::Term)]),
-        _ => factor_beginning(next),
+        Some(Lexeme::CloseBracket) => Beginning::Blank(Kind::Members),
+        _ => Beginning::Predict(Kind::Members, &[Item::Kid(Class::Member)]),
     }
 }

@@ -1,11 +1,11 @@
 //! What becomes of a finished node where a kid of a class is awaited.
 
 ghost use Rattle.std.specs.Prelude.{◌≡◌};
-ghost use Rattle.pc_parse.specs.Tables.{multiplies, adds, relates, is_colon, takes_width, takes_relation, takes_sum, takes_product, grow_relation, grow_simple, grow_term, grow_access, grow_statement_name, grow_factor_name, grow_name, grow};
+ghost use Rattle.pc_parse.specs.Tables.{multiplies, adds, relates, is_colon, is_range, takes_width, takes_span, takes_relation, takes_sum, takes_product, grow_relation, grow_simple, grow_term, grow_access, grow_defined_name, grow_defined_type, grow_type_name, grow_range, grow_bound, grow_statement_name, grow_factor_name, grow_name, grow};
 ghost use Rattle.pc_parse.specs.Views.{grow_view};
 
 use crate::lexemes::next_spelling;
-use pc_syntax::{Class, Item, Kind, Lexeme};
+use pc_syntax::{Class, Item, Kind, Lexeme, Sort};
 
 /// What becomes of a finished node: it is given as the awaited kid; or it becomes the first kid of
 /// a node, alone, or of one that goes on and takes the symbol, or that goes on without taking it.
@@ -23,10 +23,21 @@ pub fn node_growth(kind: Kind, class: Class, next: Option<Lexeme>) -> Growth
 {
     match kind {
         Kind::Name => name_growth(class, next),
-        Kind::Ref | Kind::Index | Kind::Select => access_growth(class, next),
-        Kind::Number | Kind::Call | Kind::Parens | Kind::Mul => term_growth(class, next),
+        Kind::Ref | Kind::Index | Kind::Select | Kind::Deref => access_growth(class, next),
+        Kind::Number
+        | Kind::Text
+        | Kind::Nil
+        | Kind::Call
+        | Kind::Parens
+        | Kind::Not
+        | Kind::Setcon
+        | Kind::Mul => { term_growth(class, next) }
         Kind::Add | Kind::Sign => simple_growth(class, next),
         Kind::Rel => relation_growth(class, next),
+        Kind::Cnumber | Kind::Cstring | Kind::Cname | Kind::Csign => bound_growth(class, next),
+        Kind::Hole(Sort::Constant) => bound_growth(class, next),
+        Kind::Hole(Sort::Expression) => access_growth(class, next),
+        Kind::Hole(Sort::Name) => name_growth(class, next),
         _ => Growth::Give,
     }
 }
@@ -37,10 +48,71 @@ fn name_growth(class: Class, next: Option<Lexeme>) -> Growth
     match class {
         Class::Name => Growth::Give,
         Class::Access => Growth::Wrap(Kind::Ref),
-        Class::Denoter => Growth::Wrap(Kind::Tname),
+        Class::Denoter | Class::Ordinal => type_name_growth(next),
+        Class::Constdef => defined_name_growth(next),
+        Class::Typedef => defined_type_growth(next),
+        Class::Constant | Class::Bare => Growth::Wrap(Kind::Cname),
         Class::Statement => statement_name_growth(next),
-        Class::Factor | Class::Term | Class::Simple | Class::Expression | Class::Argument => {
-            factor_name_growth(next)
+        Class::Factor
+        | Class::Term
+        | Class::Simple
+        | Class::Expression
+        | Class::Argument
+        | Class::Member => factor_name_growth(next),
+        _ => Growth::Give,
+    }
+}
+
+fn defined_name_growth(next: Option<Lexeme>) -> Growth
+    ensures { grow_view result ≡ grow_defined_name next }
+{
+    match next {
+        Some(Lexeme::Equal) => Growth::Shift(
+            Kind::Constdef,
+            b"",
+            &[Item::Kid(Class::Constant), Item::Literal(Lexeme::Semicolon)],
+        ),
+        _ => Growth::Give,
+    }
+}
+
+fn defined_type_growth(next: Option<Lexeme>) -> Growth
+    ensures { grow_view result ≡ grow_defined_type next }
+{
+    match next {
+        Some(Lexeme::Equal) => Growth::Shift(
+            Kind::Typedef,
+            b"",
+            &[Item::Kid(Class::Denoter), Item::Literal(Lexeme::Semicolon)],
+        ),
+        _ => Growth::Give,
+    }
+}
+
+fn type_name_growth(next: Option<Lexeme>) -> Growth
+    ensures { grow_view result ≡ grow_type_name next }
+{
+    match next {
+        Some(Lexeme::DotDot) => Growth::Wrap(Kind::Cname),
+        _ => Growth::Wrap(Kind::Tname),
+    }
+}
+
+fn bound_growth(class: Class, next: Option<Lexeme>) -> Growth
+    ensures { grow_view result ≡ grow_bound class next }
+{
+    match class {
+        Class::Denoter | Class::Ordinal => range_growth(next),
+        _ => Growth::Give,
+    }
+}
+
+fn range_growth(next: Option<Lexeme>) -> Growth
+    ensures { grow_view result ≡ grow_range next }
+{
+    match next {
+        Some(Lexeme::DotDot) => {
+            Growth::Shift(Kind::Subrange, b"", &[Item::Kid(Class::Constant)])
         }
         _ => Growth::Give,
     }
@@ -53,6 +125,7 @@ fn statement_name_growth(next: Option<Lexeme>) -> Growth
         Some(Lexeme::Becomes) => Growth::Wrap(Kind::Ref),
         Some(Lexeme::OpenBracket) => Growth::Wrap(Kind::Ref),
         Some(Lexeme::Dot) => Growth::Wrap(Kind::Ref),
+        Some(Lexeme::Caret) => Growth::Wrap(Kind::Ref),
         _ => Growth::Enter(Kind::Proc, &[Item::Kid(Class::Args)]),
     }
 }
@@ -80,6 +153,7 @@ fn access_growth(class: Class, next: Option<Lexeme>) -> Growth
             &[Item::Kid(Class::Exprs), Item::Literal(Lexeme::CloseBracket)],
         ),
         Some(Lexeme::Dot) => Growth::Shift(Kind::Select, b"", &[Item::Kid(Class::Name)]),
+        Some(Lexeme::Caret) => Growth::Shift(Kind::Deref, b"", &[]),
         Some(Lexeme::Becomes) => match class {
             Class::Statement => Growth::Shift(Kind::Assign, b"", &[Item::Kid(Class::Expression)]),
             _ => Growth::Give,
@@ -115,6 +189,8 @@ fn relation_growth(class: Class, next: Option<Lexeme>) -> Growth
 {
     if takes_width(class) && is_colon(next) {
         Growth::Shift(Kind::Width, b"", &[Item::Kid(Class::Expression)])
+    } else if takes_span(class) && is_range(next) {
+        Growth::Shift(Kind::Span, b"", &[Item::Kid(Class::Expression)])
     } else {
         Growth::Give
     }
@@ -126,16 +202,25 @@ fn takes_width(class: Class) -> bool
     matches!(class, Class::Argument)
 }
 
+fn takes_span(class: Class) -> bool
+    ensures { result ≡ takes_span class }
+{
+    matches!(class, Class::Member)
+}
+
 fn takes_relation(class: Class) -> bool
     ensures { result ≡ takes_relation class }
 {
-    matches!(class, Class::Expression | Class::Argument)
+    matches!(class, Class::Expression | Class::Argument | Class::Member)
 }
 
 fn takes_sum(class: Class) -> bool
     ensures { result ≡ takes_sum class }
 {
-    matches!(class, Class::Simple | Class::Expression | Class::Argument)
+    matches!(
+        class,
+        Class::Simple | Class::Expression | Class::Argument | Class::Member
+    )
 }
 
 fn takes_product(class: Class) -> bool
@@ -143,7 +228,7 @@ fn takes_product(class: Class) -> bool
 {
     matches!(
         class,
-        Class::Term | Class::Simple | Class::Expression | Class::Argument
+        Class::Term | Class::Simple | Class::Expression | Class::Argument | Class::Member
     )
 }
 
@@ -190,6 +275,15 @@ fn is_colon(next: Option<Lexeme>) -> bool
 {
     match next {
         Some(Lexeme::Colon) => true,
+        _ => false,
+    }
+}
+
+fn is_range(next: Option<Lexeme>) -> bool
+    ensures { result ≡ is_range next }
+{
+    match next {
+        Some(Lexeme::DotDot) => true,
         _ => false,
     }
 }

@@ -3,6 +3,7 @@
 ghost use Rattle.std.specs.Prelude.{◌≡◌, true, IfOk, List, [], ◌∷◌};
 ghost use Rattle.pc_parse.specs.Machine.{leaf_word, awaited};
 ghost use Rattle.pc_parse.specs.Measured as measured;
+ghost use Rattle.pc_parse.specs.Tables.{turned_word};
 ghost use Rattle.pc_parse.specs.Views.{start_view, grow_view, switch_view, awaited_view, first_view, frame_view, stack, state_view, outcome_view, row_view, IsBuildable};
 ghost use Rattle.pc_parse.specs.Rows.{made, added, no_kids};
 
@@ -11,7 +12,7 @@ use crate::growths::{Growth, node_growth};
 use crate::leaves::Leaves;
 use crate::lexemes::comes_next;
 use crate::rows::{Cut, Node, Row};
-use crate::turns::{next_element, turn};
+use crate::turns::{next_element, turn, turned_word};
 use pc_syntax::{Class, Item, Kind, Lexeme, is_forward};
 use std::alloc::{AllocError, Global};
 
@@ -144,12 +145,12 @@ fn first_item(items: &'static [Item]) -> Option<(Item, &'static [Item])>
 
 /// A node goes on with other items, as another kind.
 fn turned<'a>(node: Node<'a>, kind: Kind, items: &'static [Item]) -> Outcome<'a>
-    ensures { (fs : List measured.Frame) → outcome_view result fs ≡ measured.Take (measured.Reading (measured.frame kind node.entry.word.now (row_view node.entry.kids) items.now) fs) }
+    ensures { (fs : List measured.Frame) → outcome_view result fs ≡ measured.Take (measured.Reading (measured.frame kind (turned_word kind node.entry.word.now) (row_view node.entry.kids) items.now) fs) }
 {
     Outcome::Took(Position::Within(Frame {
         node: Node {
             kind,
-            word: node.word,
+            word: turned_word(kind, node.word),
             kids: node.kids,
         },
         items,

@@ -77,19 +77,57 @@ fn is_read_so_far(lexeme: Lexeme) -> bool
     ensures { result ≡ is_read_so_far lexeme }
 {
     match lexeme {
-        Lexeme::KeyProgram
-        | Lexeme::KeyVar
+        Lexeme::KeyAnd
         | Lexeme::KeyBegin
+        | Lexeme::KeyDiv
+        | Lexeme::KeyDo
+        | Lexeme::KeyElse
         | Lexeme::KeyEnd
-        | Lexeme::Semicolon
-        | Lexeme::Colon
+        | Lexeme::KeyIf
+        | Lexeme::KeyIn
+        | Lexeme::KeyMod
+        | Lexeme::KeyOr
+        | Lexeme::KeyProgram
+        | Lexeme::KeyThen
+        | Lexeme::KeyVar
+        | Lexeme::KeyWhile
+        | Lexeme::Plus
+        | Lexeme::Minus
+        | Lexeme::Star
+        | Lexeme::Equal
+        | Lexeme::Less
+        | Lexeme::Greater
+        | Lexeme::OpenBracket
+        | Lexeme::CloseBracket
+        | Lexeme::Dot
         | Lexeme::Comma
+        | Lexeme::Colon
+        | Lexeme::Semicolon
         | Lexeme::OpenParen
         | Lexeme::CloseParen
-        | Lexeme::Plus
-        | Lexeme::Dot
+        | Lexeme::Unequal
+        | Lexeme::AtMost
+        | Lexeme::AtLeast
         | Lexeme::Becomes
         | Lexeme::Identifier
+        | Lexeme::KeyNil
+        | Lexeme::KeyNot
+        | Lexeme::Caret
+        | Lexeme::Text
+        | Lexeme::KeyRepeat
+        | Lexeme::KeyUntil
+        | Lexeme::KeyWith
+        | Lexeme::DotDot
+        | Lexeme::Hole(_)
+        | Lexeme::KeyConst
+        | Lexeme::KeyFor
+        | Lexeme::KeyTo
+        | Lexeme::KeyDownto
+        | Lexeme::KeyType
+        | Lexeme::KeyArray
+        | Lexeme::KeyOf
+        | Lexeme::KeySet
+        | Lexeme::KeyPacked
         | Lexeme::Numeral => true,
         _ => false,
     }

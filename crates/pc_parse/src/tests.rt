@@ -28,8 +28,8 @@ fn measure<L: Ledger>(
 }
 
 #[test]
-fn a_text_is_read_as_the_tree_that_has_its_symbols(rt: HostRuntime) -> Result<(), Fail> {
-    let cases: [(Sort, &[u8], Result<(u64, u32), ParseError>); 30] = [
+fn a_program_or_a_declaration_is_read_as_its_tree(rt: HostRuntime) -> Result<(), Fail> {
+    let cases: [(Sort, &[u8], Result<(u64, u32), ParseError>); 44] = [
         (
             Sort::Program,
             b"program b; var i: integer; begin i := 1; i := i + 1; write(i:2) end.",
@@ -86,12 +86,17 @@ fn a_text_is_read_as_the_tree_that_has_its_symbols(rt: HostRuntime) -> Result<()
         (
             Sort::Program,
             b"program a; begin if x end.",
+            Err(ParseError::NotFit(7)),
+        ),
+        (
+            Sort::Program,
+            b"program a; begin goto 1 end.",
             Err(ParseError::NotYet),
         ),
         (
             Sort::Program,
             b"program a; begin x := ?expression end.",
-            Err(ParseError::NotYet),
+            Ok((14, 7)),
         ),
         (
             Sort::Program,
@@ -103,19 +108,130 @@ fn a_text_is_read_as_the_tree_that_has_its_symbols(rt: HostRuntime) -> Result<()
             b"program a; begin end. (* c *)",
             Err(ParseError::NotYet),
         ),
+        (
+            Sort::Program,
+            b"program a; const b = 1; c = -b; d = 'x'; ?constdef begin end.",
+            Ok((23, 7)),
+        ),
+        (
+            Sort::Program,
+            b"program a; const b = 1; var c: d; begin end.",
+            Ok((19, 6)),
+        ),
+        (
+            Sort::Program,
+            b"program a; const begin end.",
+            Err(ParseError::NotFit(5)),
+        ),
+        (
+            Sort::Program,
+            b"program a; const b = 1; type c = b..2; d = ^c; var e: d; begin end.",
+            Ok((29, 7)),
+        ),
+        (Sort::TypeDef, b"a = b;", Ok((4, 3))),
+        (Sort::Denoter, b"1..5", Ok((3, 2))),
+        (Sort::Denoter, b"a..-b", Ok((6, 4))),
+        (Sort::Denoter, b"array [1..2, b] of ^c", Ok((9, 4))),
+        (Sort::Denoter, b"packed set of (a, b)", Ok((6, 5))),
+        (Sort::Denoter, b"set of ?type", Ok((2, 2))),
+        (
+            Sort::Denoter,
+            b"set of array [a] of b",
+            Err(ParseError::NotFit(3)),
+        ),
+        (Sort::Denoter, b"packed a", Err(ParseError::NotFit(2))),
+        (Sort::Denoter, b"'a'", Err(ParseError::NotFit(2))),
+        (Sort::ConstDef, b"a = 1;", Ok((3, 2))),
+        (Sort::Constant, b"-1", Ok((2, 2))),
+        (Sort::Constant, b"-'a'", Err(ParseError::NotFit(2))),
+        (Sort::Program, b"?program", Ok((1, 1))),
+        (Sort::Program, b"program ?name; ?block.", Ok((4, 2))),
+        (
+            Sort::Program,
+            b"program a; var ?vardef ?name: ?type; ?statement.",
+            Ok((14, 6)),
+        ),
+        (Sort::Program, b"?block", Err(ParseError::NotFit(1))),
+        (Sort::Routine, b"?routine", Ok((1, 1))),
+        (Sort::Denoter, b"?name", Ok((2, 2))),
         (Sort::Block, b"forward", Ok((1, 1))),
         (Sort::VarDef, b"a: b;", Ok((5, 3))),
         (Sort::Denoter, b"integer", Ok((2, 2))),
+        (Sort::Routine, b"x", Err(ParseError::NotFit(1))),
+    ];
+    for (sort, text, want) in cases {
+        let found = measure::<Brand>(rt.alloc(), sort, text, Blank::new(1))?;
+        assert_eq!(rt; found, want, "{text:?}");
+    }
+    Ok(())
+}
+
+#[test]
+fn a_statement_or_an_expression_is_read_as_its_tree(rt: HostRuntime) -> Result<(), Fail> {
+    let cases: [(Sort, &[u8], Result<(u64, u32), ParseError>); 39] = [
+        (Sort::Statement, b"?name", Ok((3, 2))),
+        (Sort::Statement, b"?expression := ?name", Ok((4, 3))),
+        (Sort::Statement, b"?expression", Err(ParseError::NotFit(2))),
+        (
+            Sort::Expression,
+            b"?name(?expression)^",
+            Err(ParseError::NotFit(5)),
+        ),
         (Sort::Statement, b"", Ok((1, 1))),
         (Sort::Statement, b"x.f := 1", Ok((6, 4))),
         (Sort::Statement, b"x := f(1, y)", Ok((9, 5))),
         (Sort::Statement, b"x := +(1)", Ok((6, 4))),
         (Sort::Statement, b"x := 1 2", Err(ParseError::NotFit(4))),
+        (Sort::Statement, b"if a then b", Ok((6, 3))),
+        (Sort::Statement, b"if a then b else c", Ok((9, 3))),
+        (
+            Sort::Statement,
+            b"if a then if b then c else d",
+            Ok((12, 4)),
+        ),
+        (Sort::Statement, b"while a[1, 2] do x", Ok((10, 4))),
+        (Sort::Statement, b"repeat a; b until c", Ok((10, 4))),
+        (Sort::Statement, b"with a, b^ do c", Ok((10, 5))),
+        (
+            Sort::Statement,
+            b"if a then with b do if c then d else e",
+            Ok((16, 5)),
+        ),
+        (Sort::Statement, b"with 1 do a", Err(ParseError::NotFit(2))),
+        (Sort::Statement, b"for i := 1 to n do a", Ok((8, 3))),
+        (
+            Sort::Statement,
+            b"for i := 1 downto n do if a then b",
+            Ok((11, 4)),
+        ),
+        (
+            Sort::Statement,
+            b"if a then for i := b downto c do if d then e else f",
+            Ok((18, 5)),
+        ),
+        (
+            Sort::Statement,
+            b"for i := 1 do a",
+            Err(ParseError::NotFit(5)),
+        ),
+        (Sort::Expression, b"[]", Ok((2, 2))),
+        (Sort::Expression, b"a in [1, b..'c']", Ok((10, 6))),
+        (Sort::Expression, b"[1..2..3]", Err(ParseError::NotFit(5))),
+        (Sort::Expression, b"1..2", Err(ParseError::NotFit(2))),
         (Sort::Expression, b"a + b", Ok((5, 3))),
+        (Sort::Expression, b"a - b * c <= d or e", Ok((14, 5))),
+        (Sort::Expression, b"a div b mod c and d", Ok((11, 5))),
+        (Sort::Expression, b"a in b", Ok((5, 3))),
+        (Sort::Expression, b"'it''s'", Ok((1, 1))),
+        (Sort::Expression, b"not not a = nil", Ok((6, 5))),
+        (Sort::Expression, b"a^.b^[1]", Ok((9, 6))),
+        (Sort::Expression, b"nil^", Err(ParseError::NotFit(2))),
+        (Sort::Statement, b"a^ := 'b'", Ok((5, 4))),
+        (Sort::Expression, b"a = b <> c", Err(ParseError::NotFit(4))),
+        (Sort::Expression, b"a > -b", Ok((6, 4))),
         (Sort::Expression, b"a : 2", Ok((4, 3))),
         (Sort::Expression, b"(a : 2)", Err(ParseError::NotFit(3))),
         (Sort::Name, b"x", Ok((1, 1))),
-        (Sort::Routine, b"x", Err(ParseError::NotFit(1))),
     ];
     for (sort, text, want) in cases {
         let found = measure::<Brand>(rt.alloc(), sort, text, Blank::new(1))?;

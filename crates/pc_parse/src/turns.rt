@@ -1,10 +1,10 @@
 //! How a node goes on at a symbol that isn't the next of its items.
 
 ghost use Rattle.std.specs.Prelude.{◌≡◌};
-ghost use Rattle.pc_parse.specs.Tables.{switch, again};
+ghost use Rattle.pc_parse.specs.Tables.{switch, turned_word, again};
 ghost use Rattle.pc_parse.specs.Views.{switch_view};
 
-use pc_syntax::{Class, Item, Kind, Lexeme};
+use pc_syntax::{Class, Item, Kind, Lexeme, Sort};
 
 /// The kind and the items with which a node goes on at the next symbol, which it takes, where it
 /// isn't the next of its items.
@@ -13,8 +13,12 @@ pub fn turn(kind: Kind, items: &[Item], next: Option<Lexeme>) -> Option<(Kind, &
 {
     match kind {
         Kind::If => if_turn(items, next),
+        Kind::For => for_turn(items, next),
         Kind::Stmts => stmts_turn(items, next),
+        Kind::Indexes => indexes_turn(items, next),
         Kind::Exprs => exprs_turn(items, next),
+        Kind::Accesses => accesses_turn(items, next),
+        Kind::Members => members_turn(items, next),
         Kind::Names => names_turn(items, next),
         Kind::Args => args_turn(items, next),
         Kind::Heads => heads_turn(items, next),
@@ -34,6 +38,24 @@ fn if_turn(items: &[Item], next: Option<Lexeme>) -> Option<(Kind, &'static [Item
     }
 }
 
+const DOWN: &[Item] = &[
+    Item::Kid(Class::Expression),
+    Item::Literal(Lexeme::KeyDo),
+    Item::Kid(Class::Statement),
+];
+
+fn for_turn(items: &[Item], next: Option<Lexeme>) -> Option<(Kind, &'static [Item])>
+    ensures { switch_view result ≡ switch Kind.For items.now next }
+{
+    match items {
+        [Item::Literal(Lexeme::KeyTo), ..] => match next {
+            Some(Lexeme::KeyDownto) => Some((Kind::For, DOWN)),
+            _ => None,
+        },
+        _ => None,
+    }
+}
+
 fn stmts_turn(items: &[Item], next: Option<Lexeme>) -> Option<(Kind, &'static [Item])>
     ensures { switch_view result ≡ switch Kind.Stmts items.now next }
 {
@@ -46,12 +68,48 @@ fn stmts_turn(items: &[Item], next: Option<Lexeme>) -> Option<(Kind, &'static [I
     }
 }
 
+fn indexes_turn(items: &[Item], next: Option<Lexeme>) -> Option<(Kind, &'static [Item])>
+    ensures { switch_view result ≡ switch Kind.Indexes items.now next }
+{
+    match items {
+        [] => match next {
+            Some(Lexeme::Comma) => Some((Kind::Indexes, &[Item::Kid(Class::Ordinal)])),
+            _ => None,
+        },
+        _ => None,
+    }
+}
+
 fn exprs_turn(items: &[Item], next: Option<Lexeme>) -> Option<(Kind, &'static [Item])>
     ensures { switch_view result ≡ switch Kind.Exprs items.now next }
 {
     match items {
         [] => match next {
             Some(Lexeme::Comma) => Some((Kind::Exprs, &[Item::Kid(Class::Expression)])),
+            _ => None,
+        },
+        _ => None,
+    }
+}
+
+fn accesses_turn(items: &[Item], next: Option<Lexeme>) -> Option<(Kind, &'static [Item])>
+    ensures { switch_view result ≡ switch Kind.Accesses items.now next }
+{
+    match items {
+        [] => match next {
+            Some(Lexeme::Comma) => Some((Kind::Accesses, &[Item::Kid(Class::Access)])),
+            _ => None,
+        },
+        _ => None,
+    }
+}
+
+fn members_turn(items: &[Item], next: Option<Lexeme>) -> Option<(Kind, &'static [Item])>
+    ensures { switch_view result ≡ switch Kind.Members items.now next }
+{
+    match items {
+        [] => match next {
+            Some(Lexeme::Comma) => Some((Kind::Members, &[Item::Kid(Class::Member)])),
             _ => None,
         },
         _ => None,
@@ -103,13 +161,37 @@ fn heads_turn(items: &[Item], next: Option<Lexeme>) -> Option<(Kind, &'static [I
     }
 }
 
+/// The word of a node that goes on so: a loop that was taken for one upwards goes downwards.
+pub fn turned_word<'a>(kind: Kind, word: &'a [u8]) -> &'a [u8]
+    ensures { result.now ≡ turned_word kind word.now }
+{
+    match kind {
+        Kind::For => b"downto",
+        _ => word,
+    }
+}
+
 /// The class of a further element of a list without separators, where one begins at the next symbol.
 pub fn next_element(kind: Kind, next: Option<Lexeme>) -> Option<Class>
     ensures { result ≡ again kind next }
 {
     match kind {
+        Kind::Consts => match next {
+            Some(Lexeme::Identifier) => Some(Class::Constdef),
+            Some(Lexeme::Hole(Sort::ConstDef)) => Some(Class::Constdef),
+            Some(Lexeme::Hole(Sort::Name)) => Some(Class::Constdef),
+            _ => None,
+        },
+        Kind::Types => match next {
+            Some(Lexeme::Identifier) => Some(Class::Typedef),
+            Some(Lexeme::Hole(Sort::TypeDef)) => Some(Class::Typedef),
+            Some(Lexeme::Hole(Sort::Name)) => Some(Class::Typedef),
+            _ => None,
+        },
         Kind::Vars => match next {
             Some(Lexeme::Identifier) => Some(Class::Vardef),
+            Some(Lexeme::Hole(Sort::VarDef)) => Some(Class::Vardef),
+            Some(Lexeme::Hole(Sort::Name)) => Some(Class::Vardef),
             _ => None,
         },
         _ => None,

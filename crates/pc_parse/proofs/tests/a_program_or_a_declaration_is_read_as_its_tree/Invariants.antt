@@ -1,4 +1,4 @@
-use Rattle.pc_parse.proofs.tests.a_text_is_read_as_the_tree_that_has_its_symbols.Given as goal
+use Rattle.pc_parse.proofs.tests.a_program_or_a_declaration_is_read_as_its_tree.Given as goal
 
 abbrev pub ghosts-measure : goal.ghosts-measure
 ghosts-measure g a = record { name = a.blank.name; parts = a.blank.parts }
