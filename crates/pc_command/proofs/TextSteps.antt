@@ -1,21 +1,22 @@
 -- What the text from the lines after a line is to what the line says.
-use Rattle.std.proofs.Common.{◌≡◌, ◌≢◌, ℕ, Bool, true, false, List, Option, Some, None, Ok, Err, IsTrue, refl}
+use Rattle.std.proofs.Common.{◌≡◌, ◌≢◌, ℕ, Bool, true, false, if◌then◌else◌, List, Option, Some, None, Ok, Err, IsTrue, refl}
 use Rattle.std.specs.Option.{option_map_or, option_and_then}
-use Rattle.pc_command.specs.Words.{first_word, behind_word}
+use Rattle.pc_command.specs.Words.{has_bytes, first_word, behind_word}
 use Rattle.pc_command.specs.Vocabulary.{command_word_of}
 use Rattle.pc_command.specs.Form.{fits, is_skipped, end_word, text_behind, text_in, here_word}
-use Rattle.pc_command.specs.Lines.{Read, ◌>>=◌, text_reading, load_reading, command_reading, line_reading, reading}
+use Rattle.pc_command.specs.Lines.{Read, ◌>>=◌, path_reading, text_reading, load_reading, fill_reading, command_reading, line_reading, reading}
 use Rattle.pc_command.specs.declared.command.Command.{Command}
 use Rattle.pc_command.specs.declared.command_word.CommandWord.{CommandWord}
 use Rattle.pc_command.specs.declared.command_word.CommandWord.TheVariants as word
-use Rattle.pc_command.specs.declared.error.CommandError.TheVariants.{Unknown}
+use Rattle.pc_command.specs.declared.error.CommandError.TheVariants.{Unknown, Missing}
 
 -- the text of a command that takes none doesn't matter
 
 command_passes : (command : CommandWord) (rest text : List ℕ) → option_and_then end_word (text_behind command rest) ≡ None →
     command_reading command rest (Some text) ≡ command_reading command rest None
-unfolding text_behind command_reading load_reading text_reading
+unfolding text_behind command_reading load_reading fill_reading text_reading
 command_passes word.Load rest text none = rw none refl
+command_passes word.Fill rest text none = rw none refl
 command_passes _ rest text none = refl
 
 word_passes : (command : Option CommandWord) (rest text : List ℕ) → option_and_then end_word (option_and_then (λ c. text_behind c rest) command) ≡ None →
@@ -39,10 +40,17 @@ passes_over line text none within = passes line text _ _ refl refl none within
 
 -- a command that takes a text needs it
 
+misses : {T : Type 0} (stands : Bool) (path : Read T) (made : Command) →
+    (if stands then path >>= (λ _. Err Missing) else Err Missing) ≢ Ok made
+misses false path made is = cc
+misses true (Ok path) made is = cc
+misses true (Err error) made is = cc
+
 command_needs : (command : CommandWord) (rest ending : List ℕ) (made : Command) → option_and_then end_word (text_behind command rest) ≡ Some ending →
     command_reading command rest None ≢ Ok made
-unfolding text_behind command_reading load_reading text_reading
+unfolding text_behind command_reading load_reading fill_reading text_reading
 command_needs word.Load rest ending made some is = let missing = rw some at is in cc
+command_needs word.Fill rest ending made some is = misses (has_bytes (first_word rest)) (path_reading (first_word rest)) made (rw some at is)
 command_needs _ rest ending made some is = cc
 
 word_needs : (command : Option CommandWord) (rest ending : List ℕ) (made : Command) →

@@ -1,8 +1,8 @@
 -- What a command line says. Of several reasons why it is no command, the first in the order of `CommandError` counts.
 use Rattle.std.specs.Prelude.{◌≡◌, ◌⊎◌, ℕ, true, ◌&&◌, if◌then◌else◌, List, [], ◌∷◌, Option, Some, None, Result, Ok, Err}
 use Rattle.std.specs.Option.{option_map_or, ok_or}
-use Rattle.pc_syntax.specs.Paths.{path_of}
-use Rattle.pc_command.specs.Words.{words_of, first_word, behind_word}
+use Rattle.pc_syntax.specs.Paths.{path_of, element_number}
+use Rattle.pc_command.specs.Words.{has_bytes, words_of, first_word, behind_word}
 use Rattle.pc_command.specs.Vocabulary.{command_word_of, view_word_of}
 use Rattle.pc_command.specs.Form.{fits, is_skipped, end_word}
 use Rattle.pc_command.specs.declared.command_word.CommandWord.{CommandWord}
@@ -10,11 +10,11 @@ use Rattle.pc_command.specs.declared.command_word.CommandWord.TheVariants as wor
 use Rattle.pc_command.specs.declared.view_word.ViewWord.{ViewWord}
 use Rattle.pc_command.specs.declared.view_word.ViewWord.TheVariants as view
 use Rattle.pc_command.specs.declared.command.ViewName.{ViewName}
-use Rattle.pc_command.specs.declared.command.ViewName.TheVariants.{Syntax}
+use Rattle.pc_command.specs.declared.command.ViewName.TheVariants.{Syntax, Nodes}
 use Rattle.pc_command.specs.declared.command.Command.{Command}
-use Rattle.pc_command.specs.declared.command.Command.TheVariants.{Load, Put, Cut, Undo, Redo, Show}
+use Rattle.pc_command.specs.declared.command.Command.TheVariants.{Load, Put, Add, Fill, Cut, Undo, Redo, Show}
 use Rattle.pc_command.specs.declared.error.CommandError.{CommandError}
-use Rattle.pc_command.specs.declared.error.CommandError.TheVariants.{TooLong, Unknown, NotBuilt, BadPath, Missing, Extra, NoMemory}
+use Rattle.pc_command.specs.declared.error.CommandError.TheVariants.{TooLong, Unknown, NotBuilt, BadNumber, BadPath, Missing, Extra, NoMemory}
 
 -- What is read, or why it can't be.
 abbrev pub Read : Type 0 → Type 0
@@ -34,6 +34,10 @@ alone command (word ∷ more) = Err Extra
 unfoldable pub path_reading : List ℕ → Read (List ℕ)
 path_reading word = ok_or (path_of word) BadPath
 
+-- The number of an element that a word writes.
+unfoldable pub number_reading : List ℕ → Read ℕ
+number_reading word = ok_or (element_number word) BadNumber
+
 -- The text of a line, or the text that stands in the lines after it.
 unfoldable pub text_reading : List ℕ → Option (List ℕ) → Read (List ℕ)
 text_reading text here = option_map_or (λ _. ok_or here Missing) (end_word text) (Ok text)
@@ -41,6 +45,7 @@ text_reading text here = option_map_or (λ _. ok_or here Missing) (end_word text
 -- The view of a view word, where it is built.
 abbrev pub view_of : ViewWord → Read ViewName
 view_of view.Syntax = Ok Syntax
+view_of view.Tree = Ok Nodes
 view_of _ = Err NotBuilt
 
 -- The view that a word names.
@@ -63,6 +68,35 @@ put_reading [] = Err Missing
 put_reading (word ∷ more) = do
   path ← path_reading word
   put_at path more
+
+-- `add PATH K TEMPLATE`: the number is read before the path
+abbrev pub add_at : List ℕ → ℕ → List (List ℕ) → Read Command
+add_at path number [] = Err Missing
+add_at path number (template ∷ more) = alone (Add path number template) more
+
+abbrev pub add_behind : List ℕ → List (List ℕ) → Read Command
+add_behind path_word [] = do
+  path ← path_reading path_word
+  Err Missing
+add_behind path_word (number_word ∷ more) = do
+  number ← number_reading number_word
+  path ← path_reading path_word
+  add_at path number more
+
+unfoldable pub add_reading : List (List ℕ) → Read Command
+add_reading [] = Err Missing
+add_reading (word ∷ more) = add_behind word more
+
+-- `fill PATH TEXT`
+abbrev pub filled_reading : List ℕ → List ℕ → Option (List ℕ) → Read Command
+filled_reading word text here = do
+  path ← path_reading word
+  filled ← text_reading text here
+  Ok (Fill path filled)
+
+unfoldable pub fill_reading : List ℕ → Option (List ℕ) → Read Command
+fill_reading rest here =
+    if has_bytes (first_word rest) then filled_reading (first_word rest) (behind_word rest) here else Err Missing
 
 -- `cut PATH`
 unfoldable pub cut_reading : List (List ℕ) → Read Command
@@ -89,6 +123,8 @@ watch_reading (word ∷ more) = do
 unfoldable pub command_reading : CommandWord → List ℕ → Option (List ℕ) → Read Command
 command_reading word.Load rest here = load_reading rest here
 command_reading word.Put rest here = put_reading (words_of rest)
+command_reading word.Add rest here = add_reading (words_of rest)
+command_reading word.Fill rest here = fill_reading rest here
 command_reading word.Cut rest here = cut_reading (words_of rest)
 command_reading word.Undo rest here = alone Undo (words_of rest)
 command_reading word.Redo rest here = alone Redo (words_of rest)

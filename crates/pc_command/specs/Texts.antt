@@ -23,6 +23,7 @@ abbrev pub error_text : CommandError → List ℕ
 error_text error.TooLong = codes "too long"
 error_text error.Unknown = codes "unknown command"
 error_text error.NotBuilt = codes "not built yet"
+error_text error.BadNumber = codes "bad number"
 error_text error.BadPath = codes "bad path"
 error_text error.Missing = codes "missing"
 error_text error.Extra = codes "extra"

@@ -9,6 +9,10 @@ pub enum Command {
     Load(Word),
     /// `put PATH TEMPLATE`: a piece of this name is put where the path leads.
     Put(Path, Word),
+    /// `add PATH K TEMPLATE`: a piece of this name becomes the element with this number, from 1, of the list where the path leads.
+    Add(Path, u32, Word),
+    /// `fill PATH TEXT`: the piece that the text writes is put where the path leads.
+    Fill(Path, Word),
     /// `cut PATH`: what stands where the path leads is taken out.
     Cut(Path),
     /// `undo`: back to before the last change.
@@ -24,4 +28,6 @@ pub enum Command {
 pub enum ViewName {
     /// The text of the program.
     Syntax,
+    /// The nodes of its tree, a line for each (the word is `tree`).
+    Nodes,
 }

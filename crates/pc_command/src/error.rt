@@ -12,6 +12,8 @@ pub enum CommandError {
     Unknown,
     /// The command or the view isn't built yet.
     NotBuilt,
+    /// The number of an element is needed, and the word there is no row of digits, or its value isn't from 1 to 4294967295.
+    BadNumber,
     /// A path is needed, and the word there hasn't the form of one.
     BadPath,
     /// A word is needed and isn't there, or the script ends before the text that the line takes from it.
@@ -33,6 +35,7 @@ impl fmt::Display for CommandError {
             CommandError::TooLong => f.write_str("too long"),
             CommandError::Unknown => f.write_str("unknown command"),
             CommandError::NotBuilt => f.write_str("not built yet"),
+            CommandError::BadNumber => f.write_str("bad number"),
             CommandError::BadPath => f.write_str("bad path"),
             CommandError::Missing => f.write_str("missing"),
             CommandError::Extra => f.write_str("extra"),

@@ -4,7 +4,7 @@ ghost use Rattle.std.specs.Prelude.{◌≡◌, true};
 ghost use Rattle.std.specs.Option.{option_map_or};
 ghost use Rattle.pc_command.specs.Form.{fits};
 ghost use Rattle.pc_command.specs.Words.{words_of};
-ghost use Rattle.pc_command.specs.Lines.{reading, line_reading, command_reading, load_reading, put_reading, cut_reading, show_reading, watch_reading, text_reading, path_reading, view_reading, alone, Reads};
+ghost use Rattle.pc_command.specs.Lines.{reading, line_reading, command_reading, load_reading, put_reading, add_reading, fill_reading, cut_reading, show_reading, watch_reading, text_reading, path_reading, number_reading, view_reading, alone, Reads};
 
 use crate::command::{Command, ViewName};
 use crate::command_word::CommandWord;
@@ -12,7 +12,7 @@ use crate::error::CommandError;
 use crate::form::{end_word, fits, is_skipped};
 use crate::view_word::ViewWord;
 use crate::words::{first_word, next_word};
-use pc_syntax::{Path, ReadError, Word};
+use pc_syntax::{Path, ReadError, Word, element_number};
 use std::alloc::Global;
 
 /// What a line asks for, or none where it is blank or a note. `here` is the text that the line took from the lines after
@@ -71,6 +71,8 @@ fn read_rest(
     match word {
         CommandWord::Load => read_load(alloc, rest, here),
         CommandWord::Put => read_put(alloc, rest),
+        CommandWord::Add => read_add(alloc, rest),
+        CommandWord::Fill => read_fill(alloc, rest, here),
         CommandWord::Cut => read_cut(alloc, rest),
         CommandWord::Undo => alone(Command::Undo, rest),
         CommandWord::Redo => alone(Command::Redo, rest),
@@ -101,6 +103,39 @@ fn read_put(alloc: Global, rest: &[u8]) -> Result<Command, CommandError>
     };
     let template = Word::new(alloc, template)?;
     alone(Command::Put(path, template), rest)
+}
+
+#[tactic(auto, unfolding(crate::specs::Lines::add_reading))]
+fn read_add(alloc: Global, rest: &[u8]) -> Result<Command, CommandError>
+    ensures { Reads (add_reading (words_of rest.now)) result }
+{
+    let Some((path_word, rest)) = next_word(rest) else {
+        return Err(CommandError::Missing);
+    };
+    let Some((number_word, rest)) = next_word(rest) else {
+        read_path(alloc, path_word)?;
+        return Err(CommandError::Missing);
+    };
+    let number = read_number(number_word)?;
+    let path = read_path(alloc, path_word)?;
+    let Some((template, rest)) = next_word(rest) else {
+        return Err(CommandError::Missing);
+    };
+    let template = Word::new(alloc, template)?;
+    alone(Command::Add(path, number, template), rest)
+}
+
+#[tactic(auto, unfolding(crate::specs::Lines::fill_reading))]
+fn read_fill(alloc: Global, rest: &[u8], here: Option<Word>) -> Result<Command, CommandError>
+    ensures { Reads (fill_reading rest.now here) result }
+{
+    let (word, text) = first_word(rest);
+    if word.is_empty() {
+        return Err(CommandError::Missing);
+    }
+    let path = read_path(alloc, word)?;
+    let text = read_text(alloc, text, here)?;
+    Ok(Command::Fill(path, text))
 }
 
 #[tactic(auto, unfolding(crate::specs::Lines::cut_reading))]
@@ -158,12 +193,20 @@ fn read_path(alloc: Global, word: &[u8]) -> Result<Path, CommandError>
     }
 }
 
+#[tactic(auto, unfolding(crate::specs::Lines::number_reading))]
+fn read_number(word: &[u8]) -> Result<u32, CommandError>
+    ensures { result ≡ number_reading word.now }
+{
+    element_number(word).ok_or(CommandError::BadNumber)
+}
+
 #[tactic(auto, unfolding(crate::specs::Lines::view_reading))]
 fn read_view(word: &[u8]) -> Result<ViewName, CommandError>
     ensures { result ≡ view_reading word.now }
 {
     match ViewWord::read(word) {
         Some(ViewWord::Syntax) => Ok(ViewName::Syntax),
+        Some(ViewWord::Tree) => Ok(ViewName::Nodes),
         Some(_) => Err(CommandError::NotBuilt),
         None => Err(CommandError::Unknown),
     }

@@ -66,10 +66,23 @@ fn told_command(alloc: Global, command: &Command) -> Result<Vec<u8>, AllocError>
                 template,
             )
         }
+        Command::Add(path, number, template) => {
+            with_word(
+                format!(in alloc; "[add {:?} {number}]", path.steps())?.into_bytes(),
+                template,
+            )
+        }
+        Command::Fill(path, text) => {
+            with_word(
+                format!(in alloc; "[fill {:?}]", path.steps())?.into_bytes(),
+                text,
+            )
+        }
         Command::Cut(path) => Ok(format!(in alloc; "[cut {:?}]", path.steps())?.into_bytes()),
         Command::Undo => b"[undo]".to_vec(alloc),
         Command::Redo => b"[redo]".to_vec(alloc),
         Command::Show(ViewName::Syntax) => b"[show syntax]".to_vec(alloc),
+        Command::Show(ViewName::Nodes) => b"[show tree]".to_vec(alloc),
     }
 }
 
@@ -82,7 +95,7 @@ fn with_word(mut text: Vec<u8>, word: &Word) -> Result<Vec<u8>, AllocError> {
 
 #[test]
 fn a_line_takes_its_text_or_the_one_given(rt: HostRuntime) -> Result<(), Fail> {
-    let cases: [(&[u8], Option<&[u8]>, &[u8]); 10] = [
+    let cases: [(&[u8], Option<&[u8]>, &[u8]); 23] = [
         (b"load", None, b"[load]<>"),
         (b"load ", None, b"[load]<>"),
         (b"  load  a  b ", None, b"[load]< a  b >"),
@@ -93,6 +106,19 @@ fn a_line_takes_its_text_or_the_one_given(rt: HostRuntime) -> Result<(), Fail> {
         (b"load <<E", Some(b""), b"[load]<>"),
         (b"load a", Some(b"x\n"), b"[load]<a>"),
         (b"put /1 x", Some(b"y"), b"[put [1]]<x>"),
+        (b"fill", None, b"missing"),
+        (b"fill  ", None, b"missing"),
+        (b"fill /1", None, b"[fill [1]]<>"),
+        (b"fill /1 ", None, b"[fill [1]]<>"),
+        (b"  fill  /1  a  b ", None, b"[fill [1]]< a  b >"),
+        (b"fill /1 <<E", None, b"missing"),
+        (b"fill /1 <<E", Some(b"x\n"), b"[fill [1]]<x\n>"),
+        (b"fill /1  <<E", None, b"[fill [1]]< <<E>"),
+        (b"fill <<E", None, b"bad path"),
+        (b"fill x", None, b"bad path"),
+        (b"fill x <<E", None, b"bad path"),
+        (b"fill x <<E", Some(b"x\n"), b"bad path"),
+        (b"fill / <<E <<F", None, b"[fill []]<<<E <<F>"),
     ];
     for (line, here, wanted) in cases {
         let told = told(rt.alloc(), line, here)?;
@@ -103,7 +129,7 @@ fn a_line_takes_its_text_or_the_one_given(rt: HostRuntime) -> Result<(), Fail> {
 
 #[test]
 fn a_line_with_a_path_says_this(rt: HostRuntime) -> Result<(), Fail> {
-    let cases: [(&[u8], &[u8]); 25] = [
+    let cases: [(&[u8], &[u8]); 44] = [
         (b"put /3/5 while", b"[put [3, 5]]<while>"),
         (b" put   /   a-b  ", b"[put []]<a-b>"),
         (b"put / <<E", b"[put []]<<<E>"),
@@ -116,6 +142,25 @@ fn a_line_with_a_path_says_this(rt: HostRuntime) -> Result<(), Fail> {
         (b"put 3 x y", b"bad path"),
         (b"put while /", b"bad path"),
         (b"put /\t1 x", b"bad path"),
+        (b"add / 1 x", b"[add [] 1]<x>"),
+        (b" add  /3/5  007  ?name ", b"[add [3, 5] 7]<?name>"),
+        (b"add / 4294967295 x", b"[add [] 4294967295]<x>"),
+        (b"add", b"missing"),
+        (b"add /", b"missing"),
+        (b"add /1 1", b"missing"),
+        (b"add / 1 a b", b"extra"),
+        (b"add 3", b"bad path"),
+        (b"add 3 1", b"bad path"),
+        (b"add 3 1 x", b"bad path"),
+        (b"add 3 1 x y", b"bad path"),
+        (b"add x y", b"bad number"),
+        (b"add /1 x", b"bad number"),
+        (b"add /1 x y z", b"bad number"),
+        (b"add / 0 x", b"bad number"),
+        (b"add / 4294967296 x", b"bad number"),
+        (b"add / 18446744073709551617 x", b"bad number"),
+        (b"add / -1 x", b"bad number"),
+        (b"add / +1", b"bad number"),
         (b"cut /", b"[cut []]"),
         (b"cut /4294967295/1", b"[cut [4294967295, 1]]"),
         (b"cut", b"missing"),
@@ -139,7 +184,7 @@ fn a_line_with_a_path_says_this(rt: HostRuntime) -> Result<(), Fail> {
 
 #[test]
 fn a_line_without_a_path_says_this(rt: HostRuntime) -> Result<(), Fail> {
-    let cases: [(&[u8], &[u8]); 33] = [
+    let cases: [(&[u8], &[u8]); 31] = [
         (b"", b"none"),
         (b"   ", b"none"),
         (b"# load x", b"none"),
@@ -150,7 +195,7 @@ fn a_line_without_a_path_says_this(rt: HostRuntime) -> Result<(), Fail> {
         (b"show syntax", b"[show syntax]"),
         (b"show", b"missing"),
         (b"show syntax x", b"extra"),
-        (b"show tree", b"not built yet"),
+        (b"show tree", b"[show tree]"),
         (b"show ns x", b"not built yet"),
         (b"show frob", b"unknown command"),
         (b"show frob x", b"unknown command"),
@@ -162,8 +207,6 @@ fn a_line_without_a_path_says_this(rt: HostRuntime) -> Result<(), Fail> {
         (b"unwatch frob x", b"unknown command"),
         (b"unwatch status", b"not built yet"),
         (b"step x", b"not built yet"),
-        (b"add 3", b"not built yet"),
-        (b"fill / <<E", b"not built yet"),
         (b"open a b", b"not built yet"),
         (b"save", b"not built yet"),
         (b"restart", b"not built yet"),
@@ -223,7 +266,7 @@ fn a_line_or_a_text_of_over_1_000_000_bytes_is_too_long(rt: HostRuntime) -> Resu
 #[test]
 fn a_reply_is_written_so(rt: HostRuntime) -> Result<(), Fail> {
     let shown = Word::new(rt.alloc(), b"program a;\n")?;
-    let cases: [(Answer, &[u8]); 21] = [
+    let cases: [(Answer, &[u8]); 22] = [
         (Answer::Edited(12, 0), b"ok 12\n"),
         (Answer::Edited(0, 7), b"ok 0 dropped 7\n"),
         (
@@ -276,6 +319,10 @@ fn a_reply_is_written_so(rt: HostRuntime) -> Result<(), Fail> {
         (
             Answer::Wrong(CommandError::NotBuilt),
             b"refused: not built yet\n",
+        ),
+        (
+            Answer::Wrong(CommandError::BadNumber),
+            b"refused: bad number\n",
         ),
         (Answer::Wrong(CommandError::BadPath), b"refused: bad path\n"),
         (Answer::Wrong(CommandError::Missing), b"refused: missing\n"),

@@ -1,2 +1,3 @@
+pub mod FillSteps
 pub mod LineSteps
 pub mod LoadSteps

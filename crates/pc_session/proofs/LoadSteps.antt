@@ -1,6 +1,6 @@
 -- From what is answered about symbols to what is found about a text.
-use Rattle.std.proofs.Common.{◌≡◌, ◌≢◌, ◌+◌, ◌≤◌, ℕ, List, length, Ok, Err, inl, inr, true, false, arith}
-use Rattle.pc_syntax.specs.declared.class.Class.TheVariants as class
+use Rattle.std.proofs.Common.{◌≡◌, ◌≢◌, ◌+◌, ◌≤◌, ℕ, List, length, Ok, Err, inl, inr, true, false, refl, arith}
+use Rattle.pc_syntax.specs.declared.class.Class.{Class}
 use Rattle.pc_parse.specs.declared.reading.Reading.{Reading}
 use Rattle.pc_lex.specs.declared.symbol.Span.{Span}
 use Rattle.pc_lex.specs.declared.symbol.Symbol.{Symbol}
@@ -14,12 +14,12 @@ use Rattle.pc_parse.specs.declared.error.ParseError.{ParseError}
 use Rattle.pc_parse.specs.declared.error.ParseError.TheVariants as parse
 use Rattle.pc_parse.specs.Answers.{Answered, let_through}
 use Rattle.pc_session.specs.Loading.{IsUnreadable}
-use Rattle.pc_session.specs.Finding.{Finds, FindsSymbols, StepsOnSymbols, misread, unspelled}
+use Rattle.pc_session.specs.Finding.{Finds, FindsSymbols, RefusesList, StepsOnSymbols, misread, unlisted, unspelled}
 
--- A tree of the text's symbols is its program.
-pub Finds-tree : (text : List ℕ) (ss : List PlainSymbol) (tail : List Span) (r : Reading) → Spells text ss tail →
-    Answered class.Program ss tail (Ok r.tree) → r.dropped ≡ 0 → Finds text (Ok r)
-Finds-tree text ss tail r spells (through, read, within) none =
+-- The tree of the text's symbols is the text's.
+pub Finds-tree : (c : Class) (text : List ℕ) (ss : List PlainSymbol) (tail : List Span) (r : Reading) → Spells text ss tail →
+    Answered c ss tail (Ok r.tree) → r.dropped ≡ 0 → Finds c text (Ok r)
+Finds-tree c text ss tail r spells (through, read, within) none =
     (record { symbols = ss; readable = record { tail = tail; spells = spells; through = through }; read = read; within = within }, none)
 
 unreadable : (text : List ℕ) (ss : List PlainSymbol) (tail : List Span) → Spells text ss tail → let_through ss tail ≡ false → IsUnreadable text
@@ -28,29 +28,38 @@ unreadable text ss tail spells fails others read =
     let no : true ≡ false = rw (same.0, same.1, read.through) at fails in cc
 
 -- What its symbols are refused for tells what the text is refused for.
-pub Finds-misread : (text : List ℕ) (ss : List PlainSymbol) (tail : List Span) (e : ParseError) → Spells text ss tail →
-    Answered class.Program ss tail (Err e) → Finds text (Err (misread e))
-Finds-misread text ss tail parse.NotYet spells fails = inl (unreadable text ss tail spells fails)
-Finds-misread text ss tail (parse.NotFit k) spells (through, unfit) = record {
+pub Finds-misread : (c : Class) (text : List ℕ) (ss : List PlainSymbol) (tail : List Span) (e : ParseError) → Spells text ss tail →
+    Answered c ss tail (Err e) → Finds c text (Err (misread e))
+Finds-misread c text ss tail parse.NotYet spells fails = inl (unreadable text ss tail spells fails)
+Finds-misread c text ss tail (parse.NotFit k) spells (through, unfit) = record {
   symbols = ss;
   readable = record { tail = tail; spells = spells; through = through };
   unfit = unfit;
 }
-Finds-misread text ss tail (parse.TooDeep d) spells (through, deep) = inr (record {
+Finds-misread c text ss tail (parse.TooDeep d) spells (through, deep) = inr (record {
   symbols = ss;
   readable = record { tail = tail; spells = spells; through = through };
   tree = deep.tree;
   read = deep.read;
   over = λ within. omega (arith, deep.deep, within.shallow);
 })
-Finds-misread text ss tail (parse.TooLarge n) spells (through, large) = inr (record {
+Finds-misread c text ss tail (parse.TooLarge n) spells (through, large) = inr (record {
   symbols = ss;
   readable = record { tail = tail; spells = spells; through = through };
   tree = large.tree;
   read = large.read;
   over = λ within. omega (arith, large.large, within.small);
 })
-Finds-misread text ss tail parse.NoMemory spells free = tt
+Finds-misread c text ss tail parse.NoMemory spells free = tt
+
+-- What symbols are refused for tells why their text can't take the place of a list.
+pub RefusesList-unlisted : (c : Class) (text : List ℕ) (ss : List PlainSymbol) (tail : List Span) (e : ParseError) → Spells text ss tail →
+    Answered c ss tail (Err e) → RefusesList text (unlisted e)
+RefusesList-unlisted c text ss tail parse.NotYet spells fails = unreadable text ss tail spells fails
+RefusesList-unlisted c text ss tail (parse.NotFit k) spells answered = (refl, (ss, record { tail = tail; spells = spells; through = answered.0 }))
+RefusesList-unlisted c text ss tail (parse.TooDeep d) spells answered = (refl, (ss, record { tail = tail; spells = spells; through = answered.0 }))
+RefusesList-unlisted c text ss tail (parse.TooLarge n) spells answered = (refl, (ss, record { tail = tail; spells = spells; through = answered.0 }))
+RefusesList-unlisted c text ss tail parse.NoMemory spells free = tt
 
 faulty : (text : List ℕ) (e : LexError) → FirstFault text e → IsUnreadable text
 faulty text e first symbols read = Spells-faultless text symbols read.tail e read.spells first

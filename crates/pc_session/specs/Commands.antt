@@ -2,10 +2,11 @@
 use Rattle.std.specs.Prelude.{◌≡◌, ℕ, List, [], Result, Ok, Err}
 use Rattle.pc_syntax.specs.Plain.{Plain}
 use Rattle.pc_pretty.specs.Printed.{printed}
+use Rattle.pc_views.specs.TreeView.{tree_view}
 use Rattle.pc_command.specs.declared.refusal.Refusal.{Refusal}
 use Rattle.pc_command.specs.declared.refusal.Refusal.TheVariants.{NothingToUndo, NothingToRedo, NoMemory}
 use Rattle.pc_command.specs.declared.command.ViewName.{ViewName}
-use Rattle.pc_command.specs.declared.command.ViewName.TheVariants.{Syntax}
+use Rattle.pc_command.specs.declared.command.ViewName.TheVariants.{Syntax, Nodes}
 use Rattle.pc_session.specs.declared.accepted.Accepted.{Accepted}
 use Rattle.pc_session.specs.PlainSession.{PlainSession}
 use Rattle.pc_session.specs.Trees.{edited, Undoes}
@@ -43,3 +44,4 @@ IsRedone s (Err _) t = ⊥
 -- The text of a view.
 abbrev pub shown : ViewName → PlainSession → List ℕ
 shown Syntax s = printed s.trees.tree
+shown Nodes s = tree_view s.trees.tree

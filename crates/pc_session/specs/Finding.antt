@@ -1,5 +1,6 @@
--- What is found while a text is loaded.
+-- What is found while a text is read.
 use Rattle.std.specs.Prelude.{◌≡◌, ◌+◌, ◌≤◌, ℕ, List, length, Result, Ok, Err}
+use Rattle.pc_syntax.specs.declared.class.Class.{Class}
 use Rattle.pc_lex.specs.declared.symbol.Lexed.{Lexed}
 use Rattle.pc_lex.specs.declared.symbol.Span.{Span}
 use Rattle.pc_lex.specs.Spells.{PlainSymbol, Spells}
@@ -11,7 +12,7 @@ use Rattle.pc_parse.specs.declared.error.ParseError.TheVariants as parse
 use Rattle.pc_parse.specs.declared.reading.Reading.{Reading}
 use Rattle.pc_command.specs.declared.refusal.Refusal.{Refusal}
 use Rattle.pc_command.specs.declared.refusal.Refusal.TheVariants as refusal
-use Rattle.pc_session.specs.Loading.{IsProgram, IsMisfit, IsUnreadable, IsUnbuilt}
+use Rattle.pc_session.specs.Loading.{IsReadable, IsWritten, IsMisfit, IsUnreadable, IsUnbuilt}
 
 -- The refusal of a text whose symbols are refused so.
 abbrev pub misread : ParseError → Refusal
@@ -20,6 +21,14 @@ misread (parse.NotFit number) = refusal.NotFit number
 misread (parse.TooDeep depth) = refusal.NotBuilt
 misread (parse.TooLarge size) = refusal.NotBuilt
 misread parse.NoMemory = refusal.NoMemory
+
+-- The refusal of a text in the place of a list, whose symbols are answered so.
+abbrev pub unlisted : ParseError → Refusal
+unlisted parse.NotYet = refusal.NotBuilt
+unlisted (parse.NotFit number) = refusal.NotFit 0
+unlisted (parse.TooDeep depth) = refusal.NotFit 0
+unlisted (parse.TooLarge size) = refusal.NotFit 0
+unlisted parse.NoMemory = refusal.NoMemory
 
 -- The refusal of a text with this fault.
 abbrev pub unspelled : LexError → Refusal
@@ -30,13 +39,20 @@ unspelled (EmptyString byte) = refusal.NotBuilt
 unspelled (LongNumeral byte) = refusal.NotBuilt
 unspelled NoMemory = refusal.NoMemory
 
--- What may be found to be the program of a text; want of memory may always come.
-abbrev pub Finds : List ℕ → Result Reading Refusal → Type 0
-Finds text (Ok reading) = IsProgram text reading.tree × (reading.dropped ≡ 0)
-Finds text (Err refusal.NotBuilt) = IsUnbuilt text
-Finds text (Err (refusal.NotFit number)) = IsMisfit text number
-Finds text (Err refusal.NoMemory) = Unit {0}
-Finds text (Err _) = ⊥
+-- What may be found to be the tree of a class that a text writes; want of memory may always come.
+abbrev pub Finds : Class → List ℕ → Result Reading Refusal → Type 0
+Finds c text (Ok reading) = IsWritten c text reading.tree × (reading.dropped ≡ 0)
+Finds c text (Err refusal.NotBuilt) = IsUnbuilt c text
+Finds c text (Err (refusal.NotFit number)) = IsMisfit c text number
+Finds c text (Err refusal.NoMemory) = Unit {0}
+Finds c text (Err _) = ⊥
+
+-- Why a text can't take the place of a list: it isn't readable, or it is and no list can be read; want of memory may always come.
+abbrev pub RefusesList : List ℕ → Refusal → Type 0
+RefusesList text refusal.NotBuilt = IsUnreadable text
+RefusesList text (refusal.NotFit number) = (number ≡ 0) × ((symbols : List PlainSymbol) × IsReadable text symbols)
+RefusesList text refusal.NoMemory = Unit {0}
+RefusesList text _ = ⊥
 
 -- What may be found to be the symbols of a text; want of memory may always come.
 abbrev pub FindsSymbols : List ℕ → Result Lexed Refusal → Type 0

@@ -1,12 +1,15 @@
 //! What an edit by place makes of a program.
 
 ghost use Rattle.std.specs.Prelude.{◌≡◌};
-ghost use Rattle.pc_session.specs.Editing.{is_built, Puts, Cuts};
+ghost use Rattle.pc_session.specs.Editing.{takes_element, Puts, Adds, Fills, Cuts};
+ghost use Rattle.pc_session.specs.Finding.{StepsOnSymbols};
 ghost use Rattle.pc_session.specs.Making.{MakesTemplate, refused};
 
+use crate::load::{refusal_at_list, tree_of};
 use pc_command::Refusal;
-use pc_syntax::{EditError, Kind, Path, Tree, template};
+use pc_syntax::{EditError, Path, Steps, Tree, template};
 use std::alloc::Global;
+use std::sync::ledger::Ledger;
 
 /// The tree with the template of a name in the place of the node at a path.
 pub fn with_template(alloc: Global, tree: &Tree, path: &Path, name: &[u8]) -> Result<Tree, Refusal>
@@ -15,8 +18,56 @@ pub fn with_template(alloc: Global, tree: &Tree, path: &Path, name: &[u8]) -> Re
     if tree.at(path).is_none() {
         return Err(Refusal::NoPlace);
     }
-    let piece = built_template(alloc, name)?;
+    let piece = template_named(alloc, name)?;
     match tree.put(alloc, path, &piece) {
+        Ok(tree) => Ok(tree),
+        Err(error) => Err(refused(error)),
+    }
+}
+
+/// The tree with the template of a name as element `k`, from 1, of the list at a path.
+pub fn with_added_template(
+    alloc: Global,
+    tree: &Tree,
+    path: &Path,
+    k: u32,
+    name: &[u8],
+) -> Result<Tree, Refusal>
+    ensures { Adds path.now k name.now tree.now result }
+{
+    if !takes_element(tree, path, k) {
+        return Err(Refusal::NoPlace);
+    }
+    let piece = template_named(alloc, name)?;
+    match tree.add(alloc, path, k, &piece) {
+        Ok(tree) => Ok(tree),
+        Err(error) => Err(refused(error)),
+    }
+}
+
+/// The tree with the tree that a text writes in the place of the node at a path, which has its sort.
+pub fn with_text<L: Ledger>(
+    alloc: Global,
+    tree: &Tree,
+    path: &Path,
+    text: &[u8],
+    work: &mut Steps<L>,
+) -> Result<Tree, Refusal>
+    ensures made { Fills path.now text.now tree.now result }
+    ensures work { StepsOnSymbols text.now work.old work.new }
+{
+    let Some(old) = tree.at(path) else {
+        return Err(Refusal::NoPlace);
+    };
+    let Some(sort) = old.kind().sort() else {
+        let refusal = refusal_at_list(alloc, text, work);
+        return Err(refusal);
+    };
+    let reading = match tree_of(alloc, sort, text, work) {
+        Ok(reading) => reading,
+        Err(refusal) => return Err(refusal),
+    };
+    match tree.put(alloc, path, &reading.tree) {
         Ok(tree) => Ok(tree),
         Err(error) => Err(refused(error)),
     }
@@ -32,45 +83,26 @@ pub fn without_node(alloc: Global, tree: &Tree, path: &Path) -> Result<Tree, Ref
     }
 }
 
-// The template with a name, where it is built so far.
-fn built_template(alloc: Global, name: &[u8]) -> Result<Tree, Refusal>
+// Whether there is a list at the path that can take an element with the number `k`, from 1.
+fn takes_element(tree: &Tree, path: &Path, k: u32) -> bool
+    ensures { result ≡ takes_element path.now k tree.now }
+{
+    match tree.at(path) {
+        Some(node) => node.has_room(k),
+        None => false,
+    }
+}
+
+// The template with a name.
+fn template_named(alloc: Global, name: &[u8]) -> Result<Tree, Refusal>
     ensures { MakesTemplate name.now result }
 {
     let Ok(found) = template(alloc, name) else {
         return Err(Refusal::NoMemory);
     };
-    let Some(piece) = found else {
-        return Err(Refusal::NoTemplate);
-    };
-    if !is_built(piece.kind(), piece.word()) {
-        return Err(Refusal::NotBuilt);
-    }
-    Ok(piece)
-}
-
-// Whether templates of this kind and word are built so far.
-fn is_built(kind: Kind, word: &[u8]) -> bool
-    ensures { result ≡ is_built kind word.now }
-{
-    match kind {
-        Kind::Hole(_)
-        | Kind::Program
-        | Kind::Block
-        | Kind::Forward
-        | Kind::Vardef
-        | Kind::Tname
-        | Kind::Enum
-        | Kind::Empty
-        | Kind::Assign
-        | Kind::Proc
-        | Kind::Compound
-        | Kind::Ref
-        | Kind::Select
-        | Kind::Call
-        | Kind::Parens
-        | Kind::Width => true,
-        Kind::Add | Kind::Sign => b"+".as_slice() == word,
-        _ => false,
+    match found {
+        Some(piece) => Ok(piece),
+        None => Err(Refusal::NoTemplate),
     }
 }
 

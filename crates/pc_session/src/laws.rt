@@ -1,13 +1,13 @@
 //! Laws of the definitions.
 
-ghost use Rattle.pc_session.specs.LoadingLaws.{OneProgram, ProgramFits, ProgramIsBuilt, MisfitIsBuilt};
+ghost use Rattle.pc_session.specs.LoadingLaws.{OneWritten, WrittenFits, WrittenIsBuilt, MisfitIsBuilt};
 ghost use Rattle.pc_session.specs.TreesLaws.{OneUndo, OneRedo};
 
-/// The three answers to a text that is to be loaded exclude each other, and a text has at most one program.
+/// The three answers to a text that is read as a tree of a class exclude each other, and a text has at most one such tree.
 pub fn one_answer()
-    ensures program { OneProgram }
-    ensures fits { ProgramFits }
-    ensures built { ProgramIsBuilt }
+    ensures written { OneWritten }
+    ensures fits { WrittenFits }
+    ensures built { WrittenIsBuilt }
     ensures misfit { MisfitIsBuilt }
 {}
 

@@ -3,18 +3,19 @@
 ghost use Rattle.std.specs.Prelude.{◌≡◌, Err, IfOk};
 ghost use Rattle.pc_syntax.specs.Plain.{Plain};
 ghost use Rattle.pc_session.specs.Commands.{IsEdited, Edits, IsUndone, IsRedone, shown};
-ghost use Rattle.pc_session.specs.Editing.{Writes, Puts, Cuts};
+ghost use Rattle.pc_session.specs.Editing.{Writes, Puts, Adds, Fills, Cuts};
 ghost use Rattle.pc_session.specs.Finding.{StepsOnSymbols};
 ghost use Rattle.pc_session.specs.PlainSession.{opening};
 ghost use Rattle.pc_session.specs.Trees.{Trees, edited};
 
 use crate::accepted::Accepted;
-use crate::editing::{with_template, without_node};
+use crate::editing::{with_added_template, with_template, with_text, without_node};
 use crate::history::History;
-use crate::load::program_of;
+use crate::load::tree_of;
 use pc_command::{Refusal, ViewName};
 use pc_pretty::print;
 use pc_syntax::{Path, Sort, Steps, Tree, hole};
+use pc_views::tree_view;
 use std::alloc::{AllocError, Global};
 use std::marker::Model;
 use std::sync::ledger::Ledger;
@@ -76,16 +77,15 @@ impl Session {
         ensures before { self.new.before ≡ self.old.now }
         ensures work { StepsOnSymbols text.now work.old work.new }
     {
-        match program_of(alloc, text, work) {
+        match tree_of(alloc, Sort::Program, text, work) {
             Ok(reading) => self.edit(reading.tree, reading.dropped),
             Err(refusal) => self.refuse(refusal),
         }
     }
 
     /// Puts the template with a name in the place of the node at a path. The first of these refusals that applies:
-    /// `NoPlace` where there is no such node; `NotBuilt` where the template isn't built yet, and `NoTemplate` where there
-    /// is none of that name; `NotFit(0)` where it doesn't fit there, as in the place of a list; `TooDeep` and `TooLarge`
-    /// with the numbers of the whole new tree.
+    /// `NoPlace` where there is no such node; `NoTemplate` where there is no template of that name; `NotFit(0)` where it
+    /// doesn't fit there, as in the place of a list; `TooDeep` and `TooLarge` with the numbers of the whole new tree.
     pub fn put<L: Ledger>(
         &mut self,
         alloc: Global,
@@ -99,6 +99,49 @@ impl Session {
     {
         let _ = &work;
         match with_template(alloc, self.tree(), path, template) {
+            Ok(tree) => self.edit(tree, 0),
+            Err(refusal) => self.refuse(refusal),
+        }
+    }
+
+    /// Adds the template with a name as element `k`, from 1, of the list at a path. The first of these refusals that applies:
+    /// `NoPlace` where there is no list at the path, or `k` isn't from 1 to one more than its length; then those of `put`.
+    pub fn add<L: Ledger>(
+        &mut self,
+        alloc: Global,
+        path: &Path,
+        k: u32,
+        template: &[u8],
+        work: &mut Steps<L>,
+    ) -> Result<Accepted, Refusal>
+        ensures now { Edits (Adds path.now k template.now) self.old.now result self.new.now }
+        ensures before { self.new.before ≡ self.old.now }
+        ensures work { work.new ≡ work.old }
+    {
+        let _ = &work;
+        match with_added_template(alloc, self.tree(), path, k, template) {
+            Ok(tree) => self.edit(tree, 0),
+            Err(refusal) => self.refuse(refusal),
+        }
+    }
+
+    /// Puts the tree that the text writes in the place of the node at a path, read as a tree of that node's sort. The first of
+    /// these refusals that applies: `NoPlace` where there is no such node; `NotBuilt` where the text spells no symbols, or has a
+    /// comment or a symbol that isn't read so far; `NotFit(0)` where the node is a list; `NotBuilt` where the tree is too deep or
+    /// too large; `NotFit` where the text writes no tree of the sort, with the number of one of its symbols, from 1, or one more
+    /// than it has; `NotFit(0)` where the tree doesn't fit there; `TooDeep` and `TooLarge` with the numbers of the whole new tree.
+    pub fn fill<L: Ledger>(
+        &mut self,
+        alloc: Global,
+        path: &Path,
+        text: &[u8],
+        work: &mut Steps<L>,
+    ) -> Result<Accepted, Refusal>
+        ensures now { Edits (Fills path.now text.now) self.old.now result self.new.now }
+        ensures before { self.new.before ≡ self.old.now }
+        ensures work { StepsOnSymbols text.now work.old work.new }
+    {
+        match with_text(alloc, self.tree(), path, text, work) {
             Ok(tree) => self.edit(tree, 0),
             Err(refusal) => self.refuse(refusal),
         }
@@ -167,6 +210,7 @@ impl Session {
         let _ = &work;
         match name {
             ViewName::Syntax => print(alloc, self.tree()),
+            ViewName::Nodes => tree_view(alloc, self.tree()),
         }
     }
 

@@ -32,6 +32,8 @@ const COMMENT: &[u8] = b"program a; begin {x} end.";
 enum Call {
     Load(&'static [u8]),
     Put(&'static [u8], &'static [u8]),
+    Add(&'static [u8], u32, &'static [u8]),
+    Fill(&'static [u8], &'static [u8]),
     Cut(&'static [u8]),
     Undo,
     Redo,
@@ -73,6 +75,14 @@ fn refusal_of<L: Ledger>(
         Call::Load(text) => session.load(alloc, text, work).err(),
         Call::Put(path, template) => match Path::read(alloc, path) {
             Ok(path) => session.put(alloc, &path, template, work).err(),
+            Err(_) => None,
+        },
+        Call::Add(path, k, template) => match Path::read(alloc, path) {
+            Ok(path) => session.add(alloc, &path, k, template, work).err(),
+            Err(_) => None,
+        },
+        Call::Fill(path, text) => match Path::read(alloc, path) {
+            Ok(path) => session.fill(alloc, &path, text, work).err(),
             Err(_) => None,
         },
         Call::Cut(path) => match Path::read(alloc, path) {
@@ -152,8 +162,7 @@ fn a_program_is_edited_by_place(rt: HostRuntime) -> Result<(), Fail> {
     let turns = [
         refused(Call::Put(b"/", b"gadget"), Refusal::NoTemplate, START_SHOWN),
         refused(Call::Put(b"/9", b"gadget"), Refusal::NoPlace, START_SHOWN),
-        refused(Call::Put(b"/", b"if"), Refusal::NotBuilt, START_SHOWN),
-        refused(Call::Put(b"/", b"-"), Refusal::NotBuilt, START_SHOWN),
+        refused(Call::Put(b"/", b"if"), Refusal::NotFit(0), START_SHOWN),
         refused(Call::Put(b"/", b"+"), Refusal::NotFit(0), START_SHOWN),
         refused(Call::Cut(b"/1"), Refusal::NoPlace, START_SHOWN),
         done(Call::Put(b"/", b"program"), PUT_SHOWN),
@@ -179,6 +188,87 @@ fn a_program_is_edited_by_place(rt: HostRuntime) -> Result<(), Fail> {
         done(Call::Cut(b"/"), START_SHOWN),
         refused(Call::Redo, Refusal::NothingToRedo, START_SHOWN),
         done(Call::Undo, B_SHOWN),
+    ];
+    let kept = turns_kept::<Brand>(rt.alloc(), &turns, Blank::new(1))?;
+    assert_eq!(rt; kept, turns.len());
+    Ok(())
+}
+
+const ADDED_SHOWN: &[u8] = b"program b;\nbegin\n  x;\n  ?statement\nend.\n";
+
+const CASE_SHOWN: &[u8] =
+    b"program b;\nbegin\n  x;\n  case ?expression of\n    ?arm\n  end\nend.\n";
+
+const BEFORE_SHOWN: &[u8] = b"program b;\nbegin\n  ?statement;\n  x\nend.\n";
+
+#[test]
+fn an_element_is_added_to_a_list(rt: HostRuntime) -> Result<(), Fail> {
+    let list = b"/3/5/1";
+    let turns = [
+        refused(Call::Add(b"/", 1, b"gadget"), Refusal::NoPlace, START_SHOWN),
+        done(Call::Load(B), B_SHOWN),
+        refused(Call::Add(list, 0, b"?name"), Refusal::NoPlace, B_SHOWN),
+        refused(Call::Add(list, 3, b"?name"), Refusal::NoPlace, B_SHOWN),
+        refused(Call::Add(b"/3/5", 1, b"if"), Refusal::NoPlace, B_SHOWN),
+        refused(Call::Add(list, 1, b"gadget"), Refusal::NoTemplate, B_SHOWN),
+        done(Call::Add(list, 2, b"case"), CASE_SHOWN),
+        done(Call::Revert, B_SHOWN),
+        refused(Call::Add(list, 1, b"?name"), Refusal::NotFit(0), B_SHOWN),
+        done(Call::Add(list, 2, b"?statement"), ADDED_SHOWN),
+        done(Call::Revert, B_SHOWN),
+        done(Call::Add(list, 1, b"?statement"), BEFORE_SHOWN),
+        refused(Call::Redo, Refusal::NothingToRedo, BEFORE_SHOWN),
+        done(Call::Undo, B_SHOWN),
+        refused(Call::Add(list, 3, b"?statement"), Refusal::NoPlace, B_SHOWN),
+        done(Call::Redo, BEFORE_SHOWN),
+    ];
+    let kept = turns_kept::<Brand>(rt.alloc(), &turns, Blank::new(1))?;
+    assert_eq!(rt; kept, turns.len());
+    Ok(())
+}
+
+const FILLED_SHOWN: &[u8] = b"program b;\nbegin\n  i := 1\nend.\n";
+
+const CALLED_SHOWN: &[u8] = b"program b;\nbegin\n  i := f(1 + 2)\nend.\n";
+
+#[test]
+fn a_text_is_put_in_the_place_of_a_node(rt: HostRuntime) -> Result<(), Fail> {
+    let turns = [
+        refused(Call::Fill(b"/9", b"{"), Refusal::NoPlace, START_SHOWN),
+        refused(Call::Fill(b"/", b"x"), Refusal::NotFit(1), START_SHOWN),
+        done(Call::Fill(b"/", B), B_SHOWN),
+        refused(Call::Fill(b"/3/5/1", b"{"), Refusal::NotBuilt, B_SHOWN),
+        refused(Call::Fill(b"/3/5/1", b"{x}"), Refusal::NotBuilt, B_SHOWN),
+        refused(Call::Fill(b"/3/5/1", b"goto"), Refusal::NotBuilt, B_SHOWN),
+        refused(Call::Fill(b"/3/5/1", b""), Refusal::NotFit(0), B_SHOWN),
+        refused(Call::Fill(b"/3/5/1", b"x"), Refusal::NotFit(0), B_SHOWN),
+        refused(Call::Fill(b"/3/5/1/1", b"{"), Refusal::NotBuilt, B_SHOWN),
+        refused(Call::Fill(b"/3/5/1/1", b"goto"), Refusal::NotBuilt, B_SHOWN),
+        refused(
+            Call::Fill(b"/3/5/1/1", b"i :="),
+            Refusal::NotFit(3),
+            B_SHOWN,
+        ),
+        refused(Call::Fill(b"/3/5/1/1", b"1"), Refusal::NotFit(1), B_SHOWN),
+        done(Call::Fill(b"/3/5/1/1", b"i := 1"), FILLED_SHOWN),
+        done(Call::Revert, B_SHOWN),
+        done(Call::Fill(b"/3/5/1/1", b"i := 1"), FILLED_SHOWN),
+        refused(
+            Call::Fill(b"/3/5/1/1/2", b"1:2"),
+            Refusal::NotFit(0),
+            FILLED_SHOWN,
+        ),
+        refused(
+            Call::Fill(b"/3/5/1/1/1", b"1"),
+            Refusal::NotFit(0),
+            FILLED_SHOWN,
+        ),
+        done(Call::Fill(b"/3/5/1/1/2", b"f(1 + 2)"), CALLED_SHOWN),
+        refused(Call::Redo, Refusal::NothingToRedo, CALLED_SHOWN),
+        done(Call::Undo, FILLED_SHOWN),
+        done(Call::Redo, CALLED_SHOWN),
+        done(Call::Fill(b"/3/5/1/1", b"x"), B_SHOWN),
+        done(Call::Fill(b"/1", b"c"), b"program c;\nbegin\n  x\nend.\n"),
     ];
     let kept = turns_kept::<Brand>(rt.alloc(), &turns, Blank::new(1))?;
     assert_eq!(rt; kept, turns.len());
@@ -269,17 +359,17 @@ fn a_text_is_loaded_or_refused(rt: HostRuntime) -> Result<(), Fail> {
             B_SHOWN,
         ),
         (
-            b"program a; begin write('hi') end.",
+            b"program a; begin goto 1 end.",
             Err(Refusal::NotBuilt),
             B_SHOWN,
         ),
         (
-            b"program a; begin if x then y end.",
+            b"program a; begin x := 1 / 2 end.",
             Err(Refusal::NotBuilt),
             B_SHOWN,
         ),
         (
-            b"program a; begin ?statement end.",
+            b"program a; label 1; begin end.",
             Err(Refusal::NotBuilt),
             B_SHOWN,
         ),

@@ -1,2 +1,3 @@
+pub mod FillSteps
 pub mod ReplySteps
 pub mod RunSteps

@@ -1,5 +1,5 @@
 -- What may be answered to a line, from what it was read as.
-use Rattle.std.proofs.Common.{◌≡◌, ◌≢◌, ℕ, List, [], Option, Some, None, Result, Ok, Err, inl, inr, refl, sym, ap, subst}
+use Rattle.std.proofs.Common.{◌≡◌, ℕ, List, Option, Result, Ok, Err, inl, inr, refl, subst}
 use Rattle.pc_script.specs.declared.given.Given.{Given}
 use Rattle.pc_command.specs.declared.command.Command.{Command}
 use Rattle.pc_command.specs.declared.error.CommandError.{CommandError}
@@ -8,7 +8,7 @@ use Rattle.pc_command.specs.declared.answer.Answer.TheVariants.{Wrong}
 use Rattle.pc_command.specs.Lines.{reading, Reads}
 use Rattle.pc_command.specs.Replies.{reply_of}
 use Rattle.pecan.specs.State.{State}
-use Rattle.pecan.specs.Obeying.{Obeys, RepliesTo, Answers, Answers-replies, Answers-no_memory, no_memory}
+use Rattle.pecan.specs.Obeying.{RepliesTo, Answers, Answers-replies, Answers-no_memory, no_memory}
 
 -- A line that is read is answered so.
 pub Answers-read : (s t : State) (given : Given) (read : Option Command) (piece : List ℕ) → Reads (reading given.line given.here) (Ok read) → RepliesTo (Ok read) s piece t → Answers s given piece t

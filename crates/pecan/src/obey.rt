@@ -84,6 +84,10 @@ fn perform<L: Ledger>(
     match command {
         Command::Load(text) => edited(session.load(alloc, text.bytes(), work)),
         Command::Put(path, template) => edited(session.put(alloc, path, template.bytes(), work)),
+        Command::Add(path, number, template) => {
+            edited(session.add(alloc, path, *number, template.bytes(), work))
+        }
+        Command::Fill(path, text) => edited(session.fill(alloc, path, text.bytes(), work)),
         Command::Cut(path) => edited(session.cut(alloc, path, work)),
         Command::Undo => moved(session.undo(work)),
         Command::Redo => moved(session.redo(work)),

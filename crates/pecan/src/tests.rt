@@ -11,9 +11,8 @@ use std::test::Fail;
 
 const SHOWN: &[u8] = b"?program\n";
 
-const NOT_BUILT: &[u8] = b"refused: not built yet\n";
-
-const TWICE_NOT_BUILT: &[u8] = b"refused: not built yet\nrefused: not built yet\n";
+const TWICE_UNFIT: &[u8] =
+    b"refused: does not fit at symbol 1\nrefused: does not fit at symbol 1\n";
 
 const UNKNOWN: &[u8] = b"refused: unknown command\n";
 
@@ -119,16 +118,16 @@ fn a_script_gets_these_replies_and_this_status(rt: HostRuntime) -> Result<(), Fa
             b"refused: unknown command\nrefused: unknown command\n",
         ),
         sound(
-            b"load <<E\nif\nE\nshow syntax\n",
+            b"load <<E\ngoto\nE\nshow syntax\n",
             b"refused: not built yet\n?program\n",
         ),
         sound(b"  load <<End\nprogram a; forward.\nEnd", b"ok 0\n"),
         sound(b"load <<E\nprogram a; forward.\n", MISSING),
         sound(
             b"load <<E1\nload program a; forward.\n",
-            b"refused: not built yet\nok 0\n",
+            b"refused: does not fit at symbol 1\nok 0\n",
         ),
-        sound(b"load <<E \nload  <<E\n", TWICE_NOT_BUILT),
+        sound(b"load <<E \nload  <<E\n", TWICE_UNFIT),
         unread(b"show syntax\n", &[1], b""),
         unread(b"show syntax\nshow syntax\n", &[2], b"?program\n?program\n"),
         unread(b"show syntax\nshow syntax", &[2], SHOWN),
