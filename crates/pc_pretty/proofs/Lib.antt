@@ -4,7 +4,6 @@ pub mod Back
 pub mod Clean
 pub mod Forward
 pub mod FrontOf
-pub mod ItemLaws
 pub mod Laid
 pub mod PieceSymbols
 pub mod PrintedSpells

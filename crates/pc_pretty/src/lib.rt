@@ -3,8 +3,6 @@
 //! Start at `print`. Its meaning is `printed` of `specs/Printed.antt`, over the table of spaces in `specs/Spacing.antt`.
 #![tactic(auto)]
 
-mod items;
-mod made;
 mod printing;
 mod round_trip;
 mod spacing;

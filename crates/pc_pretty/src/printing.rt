@@ -8,8 +8,8 @@ ghost use Rattle.pc_syntax.specs.Symbols.{symbols_of};
 ghost use Rattle.pc_pretty.specs.Printed as spec;
 ghost use Rattle.pc_pretty.specs.Laws.{Spelled, ReadsBack};
 
-use crate::items::node_items;
 use crate::spacing::{Place, Spacing, space};
+use pc_layout::node_items;
 use pc_syntax::{Item, Kind, Lexeme, Tree};
 use std::alloc::{AllocError, Global};
 

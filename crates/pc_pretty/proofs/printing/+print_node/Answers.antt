@@ -3,7 +3,7 @@ use Rattle.std.proofs.lemmas.List.{drop_all}
 use Rattle.pc_syntax.specs.declared.item.Item.TheVariants.{Literal, Word, Kid}
 use Rattle.pc_syntax.specs.Parts.{small-kids}
 use Rattle.pc_syntax.specs.WellFormed.{depth_of}
-use Rattle.pc_pretty.specs.Items.{items_of}
+use Rattle.pc_layout.specs.Items.{items_of}
 use Rattle.pc_pretty.specs.Printed.{pieces_of}
 use Rattle.pc_pretty.proofs.Walks.{laid, starts, item_at, kid_at, kid_there, own_is, own_small, walked_literal, walked_word, walked_kid, walked_all, depth_of-kid, some_then, some_else}
 use Rattle.pc_pretty.proofs.printing.+print_node.Goals as goal

@@ -2,7 +2,7 @@
 
 ghost use Rattle.std.specs.Prelude.{◌≡◌, ◌≢◌, ◌++◌, ◌∷◌, [], ℕ, zero, suc, List, Some, None, Option, IfOk, IsSome};
 ghost use Rattle.pc_syntax.specs.Layout as lay;
-ghost use Rattle.pc_pretty.specs.Items.{items_of, one_more};
+ghost use Rattle.pc_layout.specs.Items.{items_of, one_more};
 
 use crate::items::Items;
 use pc_syntax::{Class, Item, Lexeme};

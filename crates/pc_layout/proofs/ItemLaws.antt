@@ -6,7 +6,7 @@ use Rattle.pc_syntax.specs.declared.item.Item.TheVariants.{Word, Kid}
 use Rattle.pc_syntax.specs.declared.lexeme.Lexeme.{Lexeme}
 use Rattle.pc_syntax.specs.declared.class.Class.{Class}
 use Rattle.pc_syntax.specs.Layout.{wordless, spelled, further, elements}
-use Rattle.pc_pretty.specs.Items.{one_more}
+use Rattle.pc_layout.specs.Items.{one_more}
 
 pub wordless_is : (w : List ℕ) (o : Option (List Item)) → IsSome (wordless w o) → wordless w o ≡ o
 wordless_is [] o s = refl

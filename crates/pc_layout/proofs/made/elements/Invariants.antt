@@ -1,7 +1,7 @@
 use Rattle.std.proofs.Common.{◌≡◌, ◌++◌, ◌∷◌, ◌-◌}
 use Rattle.pc_syntax.specs.declared.item.Item.TheVariants.{Kid}
 use Rattle.pc_syntax.specs.Layout.{further}
-use Rattle.pc_pretty.proofs.made.elements.Given as goal
+use Rattle.pc_layout.proofs.made.elements.Given as goal
 
 abbrev pub invariant-loop-i : goal.invariant-loop-i
 invariant-loop-i l =

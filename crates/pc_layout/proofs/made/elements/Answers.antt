@@ -1,7 +1,7 @@
 use Rattle.std.proofs.Common.{◌<◌, ◌+◌, ◌-◌, ◌++◌, ap, sym, ◌∙◌, Some, arith}
 use Rattle.pc_syntax.specs.Layout.{further}
-use Rattle.pc_pretty.proofs.ItemLaws.{further_more, further_done, elements_is}
-use Rattle.pc_pretty.proofs.made.elements.Goals as goal
+use Rattle.pc_layout.proofs.ItemLaws.{further_more, further_done, elements_is}
+use Rattle.pc_layout.proofs.made.elements.Goals as goal
 
 pub loop-i-preserved : goal.loop-i-preserved
 loop-i-preserved c =

@@ -2,7 +2,7 @@
 
 ghost use Rattle.std.specs.Prelude.{◌≡◌, ◌++◌, ◌∷◌, [], ℕ, List, Some, None, Option, IfOk, IsSome};
 ghost use Rattle.pc_syntax.specs.Layout.{layout};
-ghost use Rattle.pc_pretty.specs.Items.{items_of};
+ghost use Rattle.pc_layout.specs.Items.{items_of};
 ghost use Rattle.pc_syntax.specs.declared.item.Item.{Item};
 ghost use Rattle.pc_syntax.specs.declared.lexeme.Lexeme.{Lexeme};
 

@@ -4,8 +4,8 @@ use Rattle.pc_syntax.specs.declared.lexeme.Lexeme.{Lexeme}
 use Rattle.pc_syntax.specs.declared.class.Class.{Class}
 use Rattle.pc_syntax.specs.declared.item.Item.{Item}
 use Rattle.pc_syntax.specs.declared.item.Item.TheVariants.{Literal, Kid}
-use Rattle.pc_pretty.specs.declared.items.Items.{Items}
-use Rattle.pc_pretty.specs.declared.items.Items.TheVariants.{Fixed, Made}
+use Rattle.pc_layout.specs.declared.items.Items.{Items}
+use Rattle.pc_layout.specs.declared.items.Items.TheVariants.{Fixed, Made}
 
 -- the items, however they are kept
 abbrev pub items_of : Items → List Item
