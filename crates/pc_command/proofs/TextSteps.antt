@@ -4,7 +4,7 @@ use Rattle.std.specs.Option.{option_map_or, option_and_then}
 use Rattle.pc_command.specs.Words.{has_bytes, first_word, behind_word}
 use Rattle.pc_command.specs.Vocabulary.{command_word_of}
 use Rattle.pc_command.specs.Form.{fits, is_skipped, end_word, text_behind, text_in, here_word}
-use Rattle.pc_command.specs.Lines.{Read, ◌>>=◌, path_reading, text_reading, load_reading, fill_reading, command_reading, line_reading, reading}
+use Rattle.pc_command.specs.Lines.{Read, ◌>>=◌, path_reading, range_reading, text_reading, load_reading, fill_reading, retype_reading, command_reading, line_reading, reading}
 use Rattle.pc_command.specs.declared.command.Command.{Command}
 use Rattle.pc_command.specs.declared.command_word.CommandWord.{CommandWord}
 use Rattle.pc_command.specs.declared.command_word.CommandWord.TheVariants as word
@@ -14,9 +14,10 @@ use Rattle.pc_command.specs.declared.error.CommandError.TheVariants.{Unknown, Mi
 
 command_passes : (command : CommandWord) (rest text : List ℕ) → option_and_then end_word (text_behind command rest) ≡ None →
     command_reading command rest (Some text) ≡ command_reading command rest None
-unfolding text_behind command_reading load_reading fill_reading text_reading
+unfolding text_behind command_reading load_reading fill_reading retype_reading text_reading
 command_passes word.Load rest text none = rw none refl
 command_passes word.Fill rest text none = rw none refl
+command_passes word.Retype rest text none = rw none refl
 command_passes _ rest text none = refl
 
 word_passes : (command : Option CommandWord) (rest text : List ℕ) → option_and_then end_word (option_and_then (λ c. text_behind c rest) command) ≡ None →
@@ -48,9 +49,10 @@ misses true (Err error) made is = cc
 
 command_needs : (command : CommandWord) (rest ending : List ℕ) (made : Command) → option_and_then end_word (text_behind command rest) ≡ Some ending →
     command_reading command rest None ≢ Ok made
-unfolding text_behind command_reading load_reading fill_reading text_reading
+unfolding text_behind command_reading load_reading fill_reading retype_reading text_reading
 command_needs word.Load rest ending made some is = let missing = rw some at is in cc
 command_needs word.Fill rest ending made some is = misses (has_bytes (first_word rest)) (path_reading (first_word rest)) made (rw some at is)
+command_needs word.Retype rest ending made some is = misses (has_bytes (first_word rest)) (range_reading (first_word rest)) made (rw some at is)
 command_needs _ rest ending made some is = cc
 
 word_needs : (command : Option CommandWord) (rest ending : List ℕ) (made : Command) →

@@ -2,9 +2,11 @@
 use Rattle.std.specs.Prelude.{◌≡◌, ◌⊎◌, ℕ, true, ◌&&◌, if◌then◌else◌, List, [], ◌∷◌, Option, Some, None, Result, Ok, Err}
 use Rattle.std.specs.Option.{option_map_or, ok_or}
 use Rattle.pc_syntax.specs.Paths.{path_of, element_number}
+use Rattle.pc_pretty.specs.declared.range.Range.{Range}
 use Rattle.pc_command.specs.Words.{has_bytes, words_of, first_word, behind_word}
 use Rattle.pc_command.specs.Vocabulary.{command_word_of, view_word_of}
 use Rattle.pc_command.specs.Form.{fits, is_skipped, end_word}
+use Rattle.pc_command.specs.Ranges.{range_of}
 use Rattle.pc_command.specs.declared.command_word.CommandWord.{CommandWord}
 use Rattle.pc_command.specs.declared.command_word.CommandWord.TheVariants as word
 use Rattle.pc_command.specs.declared.view_word.ViewWord.{ViewWord}
@@ -12,7 +14,7 @@ use Rattle.pc_command.specs.declared.view_word.ViewWord.TheVariants as view
 use Rattle.pc_command.specs.declared.command.ViewName.{ViewName}
 use Rattle.pc_command.specs.declared.command.ViewName.TheVariants.{Syntax, Nodes}
 use Rattle.pc_command.specs.declared.command.Command.{Command}
-use Rattle.pc_command.specs.declared.command.Command.TheVariants.{Load, Put, Add, Fill, Cut, Undo, Redo, Show}
+use Rattle.pc_command.specs.declared.command.Command.TheVariants.{Load, Put, Add, Fill, Retype, Cut, Undo, Redo, Show}
 use Rattle.pc_command.specs.declared.error.CommandError.{CommandError}
 use Rattle.pc_command.specs.declared.error.CommandError.TheVariants.{TooLong, Unknown, NotBuilt, BadNumber, BadPath, Missing, Extra, NoMemory}
 
@@ -37,6 +39,10 @@ path_reading word = ok_or (path_of word) BadPath
 -- The number of an element that a word writes.
 unfoldable pub number_reading : List ℕ → Read ℕ
 number_reading word = ok_or (element_number word) BadNumber
+
+-- The range that a word writes.
+unfoldable pub range_reading : List ℕ → Read Range
+range_reading word = ok_or (range_of word) BadNumber
 
 -- The text of a line, or the text that stands in the lines after it.
 unfoldable pub text_reading : List ℕ → Option (List ℕ) → Read (List ℕ)
@@ -98,6 +104,17 @@ unfoldable pub fill_reading : List ℕ → Option (List ℕ) → Read Command
 fill_reading rest here =
     if has_bytes (first_word rest) then filled_reading (first_word rest) (behind_word rest) here else Err Missing
 
+-- `retype RANGE TEXT`
+abbrev pub retyped_reading : List ℕ → List ℕ → Option (List ℕ) → Read Command
+retyped_reading word text here = do
+  range ← range_reading word
+  new ← text_reading text here
+  Ok (Retype range new)
+
+unfoldable pub retype_reading : List ℕ → Option (List ℕ) → Read Command
+retype_reading rest here =
+    if has_bytes (first_word rest) then retyped_reading (first_word rest) (behind_word rest) here else Err Missing
+
 -- `cut PATH`
 unfoldable pub cut_reading : List (List ℕ) → Read Command
 cut_reading [] = Err Missing
@@ -125,6 +142,7 @@ command_reading word.Load rest here = load_reading rest here
 command_reading word.Put rest here = put_reading (words_of rest)
 command_reading word.Add rest here = add_reading (words_of rest)
 command_reading word.Fill rest here = fill_reading rest here
+command_reading word.Retype rest here = retype_reading rest here
 command_reading word.Cut rest here = cut_reading (words_of rest)
 command_reading word.Undo rest here = alone Undo (words_of rest)
 command_reading word.Redo rest here = alone Redo (words_of rest)

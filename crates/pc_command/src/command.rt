@@ -1,5 +1,6 @@
 //! Commands.
 
+use pc_pretty::Range;
 use pc_syntax::{Path, Word};
 
 /// What a command line asks for.
@@ -13,6 +14,8 @@ pub enum Command {
     Add(Path, u32, Word),
     /// `fill PATH TEXT`: the piece that the text writes is put where the path leads.
     Fill(Path, Word),
+    /// `retype RANGE TEXT`: the text takes the place of the range in the program's printed text.
+    Retype(Range, Word),
     /// `cut PATH`: what stands where the path leads is taken out.
     Cut(Path),
     /// `undo`: back to before the last change.

@@ -12,7 +12,8 @@ pub enum CommandError {
     Unknown,
     /// The command or the view isn't built yet.
     NotBuilt,
-    /// The number of an element is needed, and the word there is no row of digits, or its value isn't from 1 to 4294967295.
+    /// The number of an element is needed, and the word there is no row of digits, or its value isn't from 1 to 4294967295; or a
+    /// range is needed, and the word there hasn't the form of one with such numbers.
     BadNumber,
     /// A path is needed, and the word there hasn't the form of one.
     BadPath,

@@ -10,6 +10,7 @@ mod command_word;
 mod error;
 mod form;
 mod laws;
+mod range;
 mod reading;
 mod refusal;
 #[cfg(test)]

@@ -4,14 +4,16 @@ ghost use Rattle.std.specs.Prelude.{◌≡◌, true};
 ghost use Rattle.std.specs.Option.{option_map_or};
 ghost use Rattle.pc_command.specs.Form.{fits};
 ghost use Rattle.pc_command.specs.Words.{words_of};
-ghost use Rattle.pc_command.specs.Lines.{reading, line_reading, command_reading, load_reading, put_reading, add_reading, fill_reading, cut_reading, show_reading, watch_reading, text_reading, path_reading, number_reading, view_reading, alone, Reads};
+ghost use Rattle.pc_command.specs.Lines.{reading, line_reading, command_reading, load_reading, put_reading, add_reading, fill_reading, retype_reading, cut_reading, show_reading, watch_reading, text_reading, path_reading, range_reading, number_reading, view_reading, alone, Reads};
 
 use crate::command::{Command, ViewName};
 use crate::command_word::CommandWord;
 use crate::error::CommandError;
 use crate::form::{end_word, fits, is_skipped};
+use crate::range::range_of;
 use crate::view_word::ViewWord;
 use crate::words::{first_word, next_word};
+use pc_pretty::Range;
 use pc_syntax::{Path, ReadError, Word, element_number};
 use std::alloc::Global;
 
@@ -73,6 +75,7 @@ fn read_rest(
         CommandWord::Put => read_put(alloc, rest),
         CommandWord::Add => read_add(alloc, rest),
         CommandWord::Fill => read_fill(alloc, rest, here),
+        CommandWord::Retype => read_retype(alloc, rest, here),
         CommandWord::Cut => read_cut(alloc, rest),
         CommandWord::Undo => alone(Command::Undo, rest),
         CommandWord::Redo => alone(Command::Redo, rest),
@@ -138,6 +141,19 @@ fn read_fill(alloc: Global, rest: &[u8], here: Option<Word>) -> Result<Command, 
     Ok(Command::Fill(path, text))
 }
 
+#[tactic(auto, unfolding(crate::specs::Lines::retype_reading))]
+fn read_retype(alloc: Global, rest: &[u8], here: Option<Word>) -> Result<Command, CommandError>
+    ensures { Reads (retype_reading rest.now here) result }
+{
+    let (word, text) = first_word(rest);
+    if word.is_empty() {
+        return Err(CommandError::Missing);
+    }
+    let range = read_range(word)?;
+    let text = read_text(alloc, text, here)?;
+    Ok(Command::Retype(range, text))
+}
+
 #[tactic(auto, unfolding(crate::specs::Lines::cut_reading))]
 fn read_cut(alloc: Global, rest: &[u8]) -> Result<Command, CommandError>
     ensures { Reads (cut_reading (words_of rest.now)) result }
@@ -198,6 +214,13 @@ fn read_number(word: &[u8]) -> Result<u32, CommandError>
     ensures { result ≡ number_reading word.now }
 {
     element_number(word).ok_or(CommandError::BadNumber)
+}
+
+#[tactic(auto, unfolding(crate::specs::Lines::range_reading))]
+fn read_range(word: &[u8]) -> Result<Range, CommandError>
+    ensures { result ≡ range_reading word.now }
+{
+    range_of(word).ok_or(CommandError::BadNumber)
 }
 
 #[tactic(auto, unfolding(crate::specs::Lines::view_reading))]

@@ -1,16 +1,20 @@
 //! Why a command isn't done.
 
+use pc_lex::LexError;
 use std::fmt;
 
-/// Why a command that is one isn't done. What it was to change stays as it was.
+/// Why a command that is one isn't done: the first of these that applies, in this order; want of memory may come at any
+/// time. What it was to change stays as it was.
 #[derive(Clone, Copy, Debug, PartialEq, Eq)]
 pub enum Refusal {
+    /// There is no such range in the printed text of the program.
+    BadRange,
     /// There is no such place.
     NoPlace,
-    /// What the template or the text needs isn't built yet.
-    NotBuilt,
     /// There is no such template.
     NoTemplate,
+    /// The text spells no symbols: its first fault. It is never want of memory.
+    Lex(LexError),
     /// 0: the piece doesn't fit its place. Else the text fits no tree, and the number is that of the symbol, from 1, at
     /// which that shows; it is one more than there are symbols where the end shows it.
     NotFit(u64),
@@ -34,9 +38,24 @@ impl fmt::Display for Refusal {
 
     fn fmt<W: fmt::Write>(&self, f: &mut fmt::Formatter<W>) -> fmt::Result {
         match self {
+            Refusal::BadRange => f.write_str("bad range"),
             Refusal::NoPlace => f.write_str("no such place"),
-            Refusal::NotBuilt => f.write_str("not built yet"),
             Refusal::NoTemplate => f.write_str("no such template"),
+            Refusal::Lex(LexError::BadByte(byte)) => write!(f, "bad character at byte {byte}"),
+            Refusal::Lex(LexError::OpenComment(byte)) => write!(
+                f,
+                "comment not closed at byte {byte}"
+            ),
+            Refusal::Lex(LexError::OpenString(byte)) => write!(
+                f,
+                "string not closed at byte {byte}"
+            ),
+            Refusal::Lex(LexError::EmptyString(byte)) => write!(f, "empty string at byte {byte}"),
+            Refusal::Lex(LexError::LongNumeral(byte)) => write!(
+                f,
+                "number too long at byte {byte}"
+            ),
+            Refusal::Lex(LexError::NoMemory) => f.write_str("no memory"),
             Refusal::NotFit(0) => f.write_str("does not fit here"),
             Refusal::NotFit(symbol) => write!(f, "does not fit at symbol {symbol}"),
             Refusal::TooDeep(depth) => write!(f, "too deep {depth}"),

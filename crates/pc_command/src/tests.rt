@@ -1,6 +1,8 @@
 ghost use Rattle.std.specs.Prelude.{};
 
 use crate::{Answer, Command, CommandError, Refusal, ViewName, here_word, read_line, reply};
+use pc_lex::LexError;
+use pc_pretty::Range;
 use pc_syntax::Word;
 use std::alloc::{AllocError, Global};
 use std::test::Fail;
@@ -75,6 +77,20 @@ fn told_command(alloc: Global, command: &Command) -> Result<Vec<u8>, AllocError>
         Command::Fill(path, text) => {
             with_word(
                 format!(in alloc; "[fill {:?}]", path.steps())?.into_bytes(),
+                text,
+            )
+        }
+        Command::Retype(range, text) => {
+            let Range {
+                from_line,
+                from_column,
+                to_line,
+                to_column,
+            } = range;
+            with_word(
+                format!(in alloc;
+                    "[retype {from_line}:{from_column}-{to_line}:{to_column}]"
+                )?.into_bytes(),
                 text,
             )
         }
@@ -264,6 +280,104 @@ fn a_line_or_a_text_of_over_1_000_000_bytes_is_too_long(rt: HostRuntime) -> Resu
 }
 
 #[test]
+fn a_line_with_a_range_says_this(rt: HostRuntime) -> Result<(), Fail> {
+    let cases: [(&[u8], Option<&[u8]>, &[u8]); 38] = [
+        (
+            b"retype 6:5-6:11 x := 1",
+            None,
+            b"[retype 6:5-6:11]<x := 1>",
+        ),
+        (
+            b" retype   1:1-1:1  a  b ",
+            None,
+            b"[retype 1:1-1:1]< a  b >",
+        ),
+        (b"retype 2:3-1:1", None, b"[retype 2:3-1:1]<>"),
+        (b"retype 2:3-4:5 ", None, b"[retype 2:3-4:5]<>"),
+        (b"retype 007:01-0010:2 x", None, b"[retype 7:1-10:2]<x>"),
+        (
+            b"retype 4294967295:4294967295-1:4294967295 x",
+            None,
+            b"[retype 4294967295:4294967295-1:4294967295]<x>",
+        ),
+        (
+            b"retype 1:1-1:1 <<E",
+            Some(b"x\n"),
+            b"[retype 1:1-1:1]<x\n>",
+        ),
+        (b"retype 1:1-1:1 <<E", Some(b""), b"[retype 1:1-1:1]<>"),
+        (b"retype 1:1-1:1 <<E", None, b"missing"),
+        (b"retype 1:1-1:1  <<E", None, b"[retype 1:1-1:1]< <<E>"),
+        (
+            b"retype 1:1-1:1 <<E <<F",
+            None,
+            b"[retype 1:1-1:1]<<<E <<F>",
+        ),
+        (b"retype", None, b"missing"),
+        (b"retype  ", None, b"missing"),
+        (b"retype 1:1-1", None, b"bad number"),
+        (b"retype 1:1-1 x", None, b"bad number"),
+        (b"retype 1-1:1 x", None, b"bad number"),
+        (b"retype 1:1 x", None, b"bad number"),
+        (b"retype 1:1- x", None, b"bad number"),
+        (b"retype 1:1 -1:1 x", None, b"bad number"),
+        (b"retype -1:1-1:1 x", None, b"bad number"),
+        (b"retype 1:1--1:1 x", None, b"bad number"),
+        (b"retype 1:1-1:1- x", None, b"bad number"),
+        (b"retype 1:1-1:1-1:1 x", None, b"bad number"),
+        (b"retype 1:1:1-1:1 x", None, b"bad number"),
+        (b"retype :1-1:1 x", None, b"bad number"),
+        (b"retype 1:-1:1 x", None, b"bad number"),
+        (b"retype 0:1-1:1 x", None, b"bad number"),
+        (b"retype 1:0-1:1 x", None, b"bad number"),
+        (b"retype 1:1-0:1 x", None, b"bad number"),
+        (b"retype 1:1-1:000 x", None, b"bad number"),
+        (b"retype 1:4294967296-1:1 x", None, b"bad number"),
+        (b"retype 1:1-1:18446744073709551617 x", None, b"bad number"),
+        (b"retype +1:1-1:1 x", None, b"bad number"),
+        (b"retype a:b-c:d x", None, b"bad number"),
+        (b"retype /1 x", None, b"bad number"),
+        (b"retype <<E", None, b"bad number"),
+        (b"retype x <<E", Some(b"x\n"), b"bad number"),
+        (b"retype x <<E", None, b"bad number"),
+    ];
+    for (line, here, wanted) in cases {
+        let told = told(rt.alloc(), line, here)?;
+        assert_eq!(rt; told.as_slice(), wanted, "{line:?}");
+    }
+    Ok(())
+}
+
+#[test]
+fn a_fault_is_written_so(rt: HostRuntime) -> Result<(), Fail> {
+    let cases: [(LexError, &[u8]); 6] = [
+        (LexError::BadByte(1), b"refused: bad character at byte 1\n"),
+        (
+            LexError::OpenComment(59),
+            b"refused: comment not closed at byte 59\n",
+        ),
+        (
+            LexError::OpenString(20),
+            b"refused: string not closed at byte 20\n",
+        ),
+        (
+            LexError::EmptyString(6),
+            b"refused: empty string at byte 6\n",
+        ),
+        (
+            LexError::LongNumeral(1_000_000),
+            b"refused: number too long at byte 1000000\n",
+        ),
+        (LexError::NoMemory, b"refused: no memory\n"),
+    ];
+    for (fault, wanted) in cases {
+        let text = reply(rt.alloc(), &Answer::Refused(Refusal::Lex(fault)))?;
+        assert_eq!(rt; text.bytes(), wanted);
+    }
+    Ok(())
+}
+
+#[test]
 fn a_reply_is_written_so(rt: HostRuntime) -> Result<(), Fail> {
     let shown = Word::new(rt.alloc(), b"program a;\n")?;
     let cases: [(Answer, &[u8]); 22] = [
@@ -274,13 +388,10 @@ fn a_reply_is_written_so(rt: HostRuntime) -> Result<(), Fail> {
             b"ok 18446744073709551615\n",
         ),
         (Answer::Shown(shown), b"program a;\n"),
+        (Answer::Refused(Refusal::BadRange), b"refused: bad range\n"),
         (
             Answer::Refused(Refusal::NoPlace),
             b"refused: no such place\n",
-        ),
-        (
-            Answer::Refused(Refusal::NotBuilt),
-            b"refused: not built yet\n",
         ),
         (
             Answer::Refused(Refusal::NoTemplate),

@@ -1,4 +1,4 @@
--- Each readable tree of a class is read from its symbols, so no two have the same symbols, and symbols that are refused
+-- Each good tree of a class is read from its symbols, so no two have the same symbols, and symbols that are refused
 -- are those of none.
 use Rattle.std.proofs.Common.{◌≡◌, ℕ, zero, suc, ◌+◌, Bool, true, false, List, [], ◌++◌, None, refl, ap, sym, ◌∙◌, append-nil, suc-add, add_comm}
 use Rattle.pc_syntax.specs.declared.kind.Kind.{Kind}
@@ -8,23 +8,26 @@ use Rattle.pc_syntax.specs.declared.class.Class.TheVariants as class
 use Rattle.pc_syntax.specs.declared.sort.Sort.{Sort}
 use Rattle.pc_syntax.specs.declared.sort.Sort.TheVariants as sort
 use Rattle.pc_syntax.specs.Plain.{Forest, Nil, Cons, Plain, count, kinds}
+use Rattle.pc_syntax.specs.Layout.{layout}
 use Rattle.pc_syntax.specs.Classes.{has}
 use Rattle.pc_syntax.specs.Symbols.{Sym, symbols}
 use Rattle.pc_syntax.specs.WellFormed.{fits_some, breaks_else_rule}
-use Rattle.pc_parse.specs.Reading.{lay, Good, class_of, Reads}
+use Rattle.pc_parse.specs.Reading.{Good, class_of, ReadsBare}
 use Rattle.pc_parse.specs.Machine.{State, Opening, Holding}
 use Rattle.pc_parse.specs.Runs.{Step, Go, Accept, Refuse, step, continue, exec}
-use Rattle.pc_parse.proofs.Follows.{known_of, readable_of, follow, corner_of, tail_after, give_after}
+use Rattle.pc_parse.proofs.Follows.{follow, corner_of, tail_after, give_after}
 use Rattle.pc_parse.proofs.Leading.{Leads}
-use Rattle.pc_parse.proofs.Simulates.{bare, Found, AllRead}
+use Rattle.pc_parse.proofs.Simulates.{bare, Found, Closed, AllRead}
 use Rattle.pc_parse.proofs.Nodes.{true-false}
 use Rattle.pc_parse.proofs.Fronts.{front}
 use Rattle.pc_parse.proofs.Statements as statements
 use Rattle.pc_parse.proofs.Expressions as expressions
 use Rattle.pc_parse.proofs.Declarations as declarations
+use Rattle.pc_parse.proofs.Parts as parts
+use Rattle.pc_parse.proofs.Routines as routines
 
 -- each kind
-node : (k : Kind) (w : List ℕ) (ks : Forest) → fits_some (lay k w (count ks)) (kinds ks) ≡ true → breaks_else_rule k ks ≡ false → AllRead ks → Found k w ks
+node : (k : Kind) (w : List ℕ) (ks : Forest) → fits_some (layout k w (count ks)) (kinds ks) ≡ true → breaks_else_rule k ks ≡ false → AllRead ks → Found k w ks
 node kind.Program w ks fit rule all = declarations.program w ks fit all
 node kind.Block w ks fit rule all = declarations.block w ks fit all
 node kind.Forward w ks fit rule all = declarations.forward w ks fit all
@@ -48,7 +51,21 @@ node kind.Names w ks fit rule all = declarations.names w ks fit all
 node kind.Consts w ks fit rule all = declarations.consts w ks fit all
 node kind.Types w ks fit rule all = declarations.types w ks fit all
 node kind.Vars w ks fit rule all = declarations.vars w ks fit all
-node kind.Routines w ks fit rule all = declarations.routines w ks fit all
+node kind.Field w ks fit rule all = parts.field w ks fit all
+node kind.Fields w ks fit rule all = parts.fields w ks fit all
+node kind.Labels w ks fit rule all = parts.labels w ks fit all
+node kind.Record w ks fit rule all = parts.record_type w ks fit all
+node kind.Record0 w ks fit rule all = parts.empty_record w ks fit all
+node kind.Case w ks fit rule all = parts.case_of w ks fit all
+node kind.Arm w ks fit rule all = parts.arm w ks fit all
+node kind.Arms w ks fit rule all = parts.arms w ks fit all
+node kind.Valparam w ks fit rule all = routines.valparam w ks fit all
+node kind.Varparam w ks fit rule all = routines.varparam w ks fit all
+node kind.Params w ks fit rule all = routines.params w ks fit all
+node kind.Procedure w ks fit rule all = routines.procedure w ks fit all
+node kind.Function w ks fit rule all = routines.function w ks fit all
+node kind.Funbody w ks fit rule all = routines.funbody w ks fit all
+node kind.Routines w ks fit rule all = routines.routines w ks fit all
 node kind.Empty w ks fit rule all = statements.empty w ks fit all
 node kind.Assign w ks fit rule all = statements.assign w ks fit all
 node kind.Proc w ks fit rule all = statements.proc w ks fit all
@@ -83,24 +100,29 @@ node kind.Exprs w ks fit rule all = expressions.exprs w ks fit all
 node kind.Accesses w ks fit rule all = expressions.accesses w ks fit all
 node kind.Members w ks fit rule all = expressions.members w ks fit all
 node (kind.Hole r) w ks fit rule all = statements.hole r w ks fit all
-node _ w ks fit rule all = true-false (sym fit)
 
--- every readable tree is read
+-- each list with a last separator
+closed : (k : Kind) (w : List ℕ) (ks : Forest) → fits_some (layout k w (count ks)) (kinds ks) ≡ true → AllRead ks → Closed k w ks
+closed kind.Arms w ks fit all = parts.arms_closed w ks fit all
+closed kind.Fields w ks fit all = parts.fields_closed w ks fit all
+closed _ w ks fit all = λ root l j v kids m fs rest h. true-false (sym h)
+
+-- every good tree is read
 all_read : (ts : Forest) → Good ts → AllRead ts
 all_read Nil h = tt
 all_read (Cons k w ns ks ts) h =
     let all = all_read ks h.3 in
-    (known_of k (count ks) (readable_of k w (count ks) (kinds ks) h.0), h.2, front k w ks h.0 all, node k w ks h.0 h.1 all, all_read ts h.4)
+    (refl, h.2, front k w ks h.0 all, (node k w ks h.0 h.1 all, closed k w ks h.0 all), all_read ts h.4)
 
 drop_nil : (root : Class) (a : State Plain) (xs : List Sym) (b : State Plain) (ys : List Sym) → Leads root a (xs ++ []) b ys → Leads root a xs b ys
 drop_nil root a xs b ys h = rw (append-nil xs) at h
 
--- the machine comes from the symbols of a readable tree to the tree
+-- the machine comes from the symbols of a good tree to the tree
 leads_whole : (c : Class) (k : Kind) (w : List ℕ) (ns : List (List ℕ)) (ks : Forest) → follow c None ≡ true → has c k ≡ true → Good (Cons k w ns ks Nil)
     → Leads c Opening (symbols k w ks) (Holding k (bare k w ks) []) []
 leads_whole c k w ns ks ends member good =
     let all = all_read (Cons k w ns ks Nil) good in
-    drop_nil _ _ _ _ _ (all.3 c c Opening [] [] [] refl refl (corner_of c k None member ends) (tail_after c k None member ends) (record { closed = λ e. cc }))
+    drop_nil _ _ _ _ _ (all.3.0 c c Opening [] [] [] (λ h. refl) refl (corner_of c k None member ends) (tail_after c k None member ends) (record { closed = λ e. cc }))
 
 -- the classes of the sorts
 abbrev pub is_root : Class → Bool
@@ -116,7 +138,7 @@ is_root class.Field = true
 is_root class.Constant = true
 is_root class.Statement = true
 is_root class.Arm = true
-is_root class.Argument = true
+is_root class.Operand = true
 is_root class.Name = true
 is_root _ = false
 
@@ -124,8 +146,8 @@ root_follow : (c : Class) → is_root c ≡ true → follow c None ≡ true
 root_follow class.Program h = cc
 root_follow _ h = cc
 
--- each readable tree is read from its symbols
-pub complete : (c : Class) (t : Plain) (ys : List Sym) → is_root c ≡ true → Reads c t ys → (n : ℕ) × (exec c n Opening ys ≡ Accept t)
+-- each good tree is read from its symbols
+pub complete : (c : Class) (t : Plain) (ys : List Sym) → is_root c ≡ true → ReadsBare c t ys → (n : ℕ) × (exec c n Opening ys ≡ Accept t)
 complete c t ys sort h =
     let ends = root_follow c sort in
     let given : step c (Holding t.kind (bare t.kind t.word t.kids) []) [] ≡ Accept (bare t.kind t.word t.kids) = rw (give_after c t.kind None h.member ends, h.member) refl in
@@ -162,15 +184,15 @@ accepted t u h = cc
 refused : (t : Plain) (zs : List Sym) → Accept t ≡ Refuse zs → ⊥
 refused t zs h = cc
 
--- no two readable trees of a class have the same symbols
-pub unique : (c : Class) (t u : Plain) (ys : List Sym) → is_root c ≡ true → Reads c t ys → Reads c u ys → t ≡ u
+-- no two good trees of a class have the same symbols
+pub unique : (c : Class) (t u : Plain) (ys : List Sym) → is_root c ≡ true → ReadsBare c t ys → ReadsBare c u ys → t ≡ u
 unique c t u ys sort h i =
     let a = complete c t ys sort h in
     let b = complete c u ys sort i in
     accepted t u (ends_alike c a.0 b.0 Opening ys (Accept t) (Accept u) refl refl a.1 b.1)
 
--- symbols that are refused are those of no readable tree
-pub unfit : (c : Class) (n : ℕ) (t : Plain) (ys zs : List Sym) → is_root c ≡ true → exec c n Opening ys ≡ Refuse zs → Reads c t ys → ⊥
+-- symbols that are refused are those of no good tree
+pub unfit : (c : Class) (n : ℕ) (t : Plain) (ys zs : List Sym) → is_root c ≡ true → exec c n Opening ys ≡ Refuse zs → ReadsBare c t ys → ⊥
 unfit c n t ys zs sort h i =
     let a = complete c t ys sort i in
     refused t zs (ends_alike c a.0 n Opening ys (Accept t) (Refuse zs) refl refl a.1 h)
@@ -181,11 +203,11 @@ root_of_sort sort.Program = refl
 root_of_sort _ = refl
 
 -- the same for sorts
-pub complete_sort : (s : Sort) (t : Plain) (ys : List Sym) → Reads (class_of s) t ys → (n : ℕ) × (exec (class_of s) n Opening ys ≡ Accept t)
+pub complete_sort : (s : Sort) (t : Plain) (ys : List Sym) → ReadsBare (class_of s) t ys → (n : ℕ) × (exec (class_of s) n Opening ys ≡ Accept t)
 complete_sort s t ys h = complete (class_of s) t ys (root_of_sort s) h
 
-pub unique_sort : (s : Sort) (t u : Plain) (ys : List Sym) → Reads (class_of s) t ys → Reads (class_of s) u ys → t ≡ u
+pub unique_sort : (s : Sort) (t u : Plain) (ys : List Sym) → ReadsBare (class_of s) t ys → ReadsBare (class_of s) u ys → t ≡ u
 unique_sort s t u ys h i = unique (class_of s) t u ys (root_of_sort s) h i
 
-pub unfit_sort : (s : Sort) (n : ℕ) (t : Plain) (ys zs : List Sym) → exec (class_of s) n Opening ys ≡ Refuse zs → Reads (class_of s) t ys → ⊥
+pub unfit_sort : (s : Sort) (n : ℕ) (t : Plain) (ys zs : List Sym) → exec (class_of s) n Opening ys ≡ Refuse zs → ReadsBare (class_of s) t ys → ⊥
 unfit_sort s n t ys zs h i = unfit (class_of s) n t ys zs (root_of_sort s) h i

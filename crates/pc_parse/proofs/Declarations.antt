@@ -20,10 +20,10 @@ use Rattle.pc_parse.specs.Tables.{Open, Predict, Blank, start, Wrap, grow, spell
 use Rattle.pc_parse.proofs.Entries.{each, implies, implies_true, &&_split, &&_join, all_classes, all_lookaheads, at_class, at_lookahead}
 use Rattle.pc_parse.proofs.Follows.{known, corner, follow, tail, ends_names, ends_heads, ends_consts, ends_types, ends_ordinal, ends_indexes, ends_vars}
 use Rattle.pc_parse.proofs.TableTests.{same_look, same_look_eq, or_left, or_right, grows_at, opens_from, opens_at, leaf_at, among_at, operator_found, wraps_to, wraps_to_eq, only_at, one_at, at_whenever, blank_to, blank_to_eq, predicts_to, predicts_to_eq}
-use Rattle.pc_parse.proofs.Simulates.{Front, Okay, Tracks, halts, first, begins_name, begins_body}
+use Rattle.pc_parse.proofs.Simulates.{Front, Okay, Tracks, halts, first, begins_name, begins_body, begins_routine}
 use Rattle.pc_parse.proofs.Nodes.{or_split, true-false, quiet_plain, inner, okay_of, opened, predicted, blank, leaf, wrapped, straight, led, tracks_self, tracks_open, tracks_closed, inner_further, plain_further}
 use Rattle.pc_parse.proofs.Statements.{IsFound}
-use Rattle.pc_parse.proofs.Fronts.{signs, leaf_fits, around_fits, by_name, body_begins, kid_first, no_kids, front}
+use Rattle.pc_parse.proofs.Fronts.{signs, leaf_fits, around_fits, by_name, body_begins, kid_first, front}
 
 pub program : IsFound kind.Program
 program [] ks fit all root c st m fs rest begins awaits cor tl quiet =
@@ -198,14 +198,6 @@ typedef [] (Cons i v ns is ts) fit all root c st m fs rest begins awaits cor tl 
     led root kind.Typedef [] i v ns is ts class.Name lexeme.Equal l c st m fs rest refl (grows_at kind.Typedef [] class.Name (Some lexeme.Equal) l c i refl cor (&&_join _ _ fit2.0 all.0)) refl refl begins awaits all fit2.1 refl refl refl
 typedef (b ∷ w) ks fit all root c st m fs rest begins awaits cor tl quiet = cc
 
--- the list that is empty so far
-pub routines : IsFound kind.Routines
-routines [] Nil fit all root c st m fs rest begins awaits cor tl quiet =
-    let e : c ≡ class.Routines = only_at kind.Routines class.Routines c refl cor in
-    blank root kind.Routines c st fs rest (rw e refl) begins
-routines (b ∷ w) Nil fit all root c st m fs rest begins awaits cor tl quiet = cc
-routines w (Cons i v ns is ts) fit all root c st m fs rest begins awaits cor tl quiet = no_kids kind.Routines w (count ts) (i ∷ kinds ts) refl fit
-
 pub consts : IsFound kind.Consts
 consts [] Nil fit all root c st m fs rest begins awaits cor tl quiet =
     let e : c ≡ class.Consts = only_at kind.Consts class.Consts c refl cor in
@@ -285,9 +277,13 @@ vardef (b ∷ w) ks fit all root c st m fs rest begins awaits cor tl quiet = cc
 abbrev block_items : List Item
 block_items = Kid class.Consts ∷ Kid class.Types ∷ Kid class.Vars ∷ Kid class.Routines ∷ Kid class.Body ∷ []
 
--- what a block without definitions of constants and types may begin with
+-- what a block without definitions of constants, types and variables may begin with
+abbrev may_route : Option Lexeme → Bool
+may_route x = begins_routine x || begins_body x
+
+-- the same, or with variables first
 abbrev may_begin : Option Lexeme → Bool
-may_begin x = same_look x (Some lexeme.KeyVar) || begins_body x
+may_begin x = same_look x (Some lexeme.KeyVar) || may_route x
 
 -- the same, or with definitions of types first
 abbrev may_type : Option Lexeme → Bool
@@ -297,15 +293,15 @@ may_type x = same_look x (Some lexeme.KeyType) || may_begin x
 abbrev may_start : Option Lexeme → Bool
 may_start x = same_look x (Some lexeme.KeyConst) || may_type x
 
-either_or : (q : Option Lexeme → Bool) (p x y : Option Lexeme) → q y ≡ true → same_look x p || same_look x y ≡ true → same_look x p || q x ≡ true
-either_or q p x y b h = go (or_split (same_look x p) (same_look x y) h)
+either_or : (q p : Option Lexeme → Bool) (x y : Option Lexeme) → q y ≡ true → p x || same_look x y ≡ true → p x || q x ≡ true
+either_or q p x y b h = go (or_split (p x) (same_look x y) h)
   where
-    go : (same_look x p ≡ true) ⊎ (same_look x y ≡ true) → same_look x p || q x ≡ true
-    go (inl e) = or_left (same_look x p) (q x) e
-    go (inr e) = or_right (same_look x p) (q x) (ap q (same_look_eq x y e) ∙ b)
+    go : (p x ≡ true) ⊎ (same_look x y ≡ true) → p x || q x ≡ true
+    go (inl e) = or_left (p x) (q x) e
+    go (inr e) = or_right (p x) (q x) (ap q (same_look_eq x y e) ∙ b)
 
 -- the first of the symbols of a kid of a class that has one kind
-first_of_kid : (d : Class) (k i : Kind) (v : List ℕ) (is : Forest) (l : List Item) (ts : Forest) (rest : List Sym) → i ≡ k → Front i v is
+pub first_of_kid : (d : Class) (k i : Kind) (v : List ℕ) (is : Forest) (l : List Item) (ts : Forest) (rest : List Sym) → i ≡ k → Front i v is
     → first k (look (fill l [] (texts ts) ++ rest)) (look ((symbols i v is ++ fill l [] (texts ts)) ++ rest)) ≡ true
 first_of_kid d k i v is l ts rest e begins =
     ap (λ o. first o (look (fill l [] (texts ts) ++ rest)) (look ((symbols i v is ++ fill l [] (texts ts)) ++ rest))) (sym e) ∙ kid_first i v is l [] ts rest begins
@@ -355,20 +351,21 @@ block [] (Cons k1 w1 n1 f1 (Cons k2 w2 n2 f2 (Cons k3 w3 n3 f3 (Cons k4 w4 n4 f4
     let a4 = a3.4 in
     let a5 = a4.4 in
     let h5 : begins_body x5 ≡ true = body_begins k5 (look (fill [] [] (texts ts) ++ rest)) x5 (&&_join _ _ s5.0 a5.0) (kid_first k5 w5 f5 [] [] ts rest a5.2) in
-    let h4 : x4 ≡ x5 = same_look_eq _ _ (first_of_kid class.Routines kind.Routines k4 w4 f4 l5 t5 rest (one_at class.Routines kind.Routines k4 refl (&&_join _ _ s4.0 a4.0)) a4.2) in
+    let h4 : begins_routine x4 || same_look x4 x5 ≡ true = first_of_kid class.Routines kind.Routines k4 w4 f4 l5 t5 rest (one_at class.Routines kind.Routines k4 refl (&&_join _ _ s4.0 a4.0)) a4.2 in
     let h3 : same_look x3 (Some lexeme.KeyVar) || same_look x3 x4 ≡ true = first_of_kid class.Vars kind.Vars k3 w3 f3 l4 t4 rest (one_at class.Vars kind.Vars k3 refl (&&_join _ _ s3.0 a3.0)) a3.2 in
     let h2 : same_look x2 (Some lexeme.KeyType) || same_look x2 x3 ≡ true = first_of_kid class.Types kind.Types k2 w2 f2 l3 t3 rest (one_at class.Types kind.Types k2 refl (&&_join _ _ s2.0 a2.0)) a2.2 in
     let h1 : same_look x1 (Some lexeme.KeyConst) || same_look x1 x2 ≡ true = first_of_kid class.Consts kind.Consts k1 w1 f1 l2 t2 rest (one_at class.Consts kind.Consts k1 refl (&&_join _ _ s1.0 all.0)) all.2 in
     let e : c ≡ class.Block = only_at kind.Block class.Block c refl cor in
-    let before_body : begins_body x4 ≡ true = ap begins_body h4 ∙ h5 in
-    let may3 : may_begin x3 ≡ true = either_or begins_body (Some lexeme.KeyVar) x3 x4 before_body h3 in
-    let may2 : may_type x2 ≡ true = either_or may_begin (Some lexeme.KeyType) x2 x3 may3 h2 in
-    let may1 : may_start x1 ≡ true = either_or may_type (Some lexeme.KeyConst) x1 x2 may2 h1 in
+    let may4 : may_route x4 ≡ true = either_or begins_body begins_routine x4 x5 h5 h4 in
+    let may3 : may_begin x3 ≡ true = either_or may_route (λ x. same_look x (Some lexeme.KeyVar)) x3 x4 may4 h3 in
+    let may2 : may_type x2 ≡ true = either_or may_begin (λ x. same_look x (Some lexeme.KeyType)) x2 x3 may3 h2 in
+    let may1 : may_start x1 ≡ true = either_or may_type (λ x. same_look x (Some lexeme.KeyConst)) x1 x2 may2 h1 in
     let consts_follow : follow class.Consts x2 ≡ true = at_whenever may_type (follow class.Consts) x2 refl may2 in
     let types_follow : follow class.Types x3 ≡ true = at_whenever may_begin (follow class.Types) x3 refl may3 in
     let opening : start class.Block x1 ≡ Predict kind.Block block_items = predicts_to_eq _ _ _ (at_whenever may_start (λ x. predicts_to (start class.Block x) kind.Block block_items) x1 refl may1) in
     let here : start c x1 ≡ Predict kind.Block block_items = ap (λ b. start b x1) e ∙ opening in
-    let vars_follow : follow class.Vars x4 ≡ true = at_whenever begins_body (follow class.Vars) x4 refl before_body in
+    let vars_follow : follow class.Vars x4 ≡ true = at_whenever may_route (follow class.Vars) x4 refl may4 in
+    let routines_follow : follow class.Routines x5 ≡ true = at_whenever begins_body (follow class.Routines) x5 refl h5 in
     let okay : Okay block_items [] t1 rest = (
       consts_follow,
       quiet_plain class.Consts k1 f1 x2 s1.0 refl,
@@ -379,7 +376,7 @@ block [] (Cons k1 w1 n1 f1 (Cons k2 w2 n2 f2 (Cons k3 w3 n3 f3 (Cons k4 w4 n4 f4
           vars_follow,
           quiet_plain class.Vars k3 f3 x4 s3.0 refl,
           (
-            refl,
+            routines_follow,
             quiet_plain class.Routines k4 f4 x5 s4.0 refl,
             okay_of l5 [] t5 rest s4.1 refl (λ p h. true-false p),
           ),

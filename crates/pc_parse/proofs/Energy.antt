@@ -6,12 +6,13 @@ use Rattle.pc_syntax.specs.declared.lexeme.Lexeme.TheVariants as lexeme
 use Rattle.pc_syntax.specs.declared.kind.Kind.{Kind}
 use Rattle.pc_syntax.specs.declared.kind.Kind.TheVariants as kind
 use Rattle.pc_syntax.specs.declared.class.Class.{Class}
+use Rattle.pc_syntax.specs.declared.class.Class.TheVariants as class
 use Rattle.pc_syntax.specs.declared.item.Item.{Item}
 use Rattle.pc_syntax.specs.declared.item.Item.TheVariants.{Literal, Word, Kid}
 use Rattle.pc_syntax.specs.Classes.{has}
 use Rattle.pc_parse.specs.Lookahead.{same_at}
-use Rattle.pc_parse.specs.Tables.{Start, Leaf, Open, Predict, Blank, NoStart, start, Grow, Give, Wrap, Shift, Enter, grow, switch, again}
-use Rattle.pc_parse.specs.Machine.{Frame, frame, State, Opening, Reading, Holding, Plan, Stay, Take, End, Stuck, leaf_word, on_leaf, on_start, on_switch, on_again, at_items, on_give, on_grow, at_kid, awaited, awaited_by, plan}
+use Rattle.pc_parse.specs.Tables.{Start, Leaf, Open, Predict, Blank, NoStart, start, Grow, Give, Wrap, Shift, Enter, grow, switch, recast, closes, again}
+use Rattle.pc_parse.specs.Machine.{Frame, frame, State, Opening, Reading, Holding, Plan, Stay, Take, End, Stuck, leaf_word, has_kids, on_leaf, on_start, on_switch, on_recast, on_close, at_close, on_kid, on_again, at_items, on_give, on_grow, at_kid, awaited, awaited_by, plan}
 use Rattle.pc_parse.specs.Energy.{node_energy, kid_energy, kept_back, items_energy, waiting_energy, below_energy, state_energy, energy}
 use Rattle.pc_parse.proofs.Entries.{each, implies, implies_true, &&_split, all_kinds, all_classes, all_lookaheads, at_kind, at_class, at_lookahead}
 
@@ -49,6 +50,10 @@ abbrev switch_pays : Option Lexeme → Option (Kind × List Item) → Bool
 switch_pays x None = true
 switch_pays x (Some p) = is_some x && ltb (items_energy (node_energy p.0) p.1) 20
 
+abbrev recast_pays : ℕ → Option (Kind × List Item) → Bool
+recast_pays e None = true
+recast_pays e (Some p) = ltb (items_energy (node_energy p.0) p.1) e
+
 starts_pay : (c : Class) (x : Option Lexeme) → start_pays (kid_energy c) x (start c x) ≡ true
 starts_pay c x = at_lookahead (λ y. start_pays (kid_energy c) y (start c y)) x (at_class (λ b. each (λ y. start_pays (kid_energy b) y (start b y)) all_lookaheads) c refl)
 
@@ -68,14 +73,30 @@ switches_pay : (k : Kind) (items : List Item) (x : Option Lexeme) → switch_pay
 switches_pay kind.If [] (Some lexeme.KeyElse) = refl
 switches_pay kind.For (Literal lexeme.KeyTo ∷ m) (Some lexeme.KeyDownto) = refl
 switches_pay kind.Stmts [] (Some lexeme.Semicolon) = refl
+switches_pay kind.Arms [] (Some lexeme.Semicolon) = refl
+switches_pay kind.Fields [] (Some lexeme.Semicolon) = refl
+switches_pay kind.Labels [] (Some lexeme.Comma) = refl
 switches_pay kind.Indexes [] (Some lexeme.Comma) = refl
 switches_pay kind.Exprs [] (Some lexeme.Comma) = refl
 switches_pay kind.Accesses [] (Some lexeme.Comma) = refl
 switches_pay kind.Members [] (Some lexeme.Comma) = refl
 switches_pay kind.Names [] (Some lexeme.Comma) = refl
 switches_pay kind.Args (Literal lexeme.CloseParen ∷ []) (Some lexeme.Comma) = refl
+switches_pay kind.Params (Literal lexeme.CloseParen ∷ []) (Some lexeme.Semicolon) = refl
 switches_pay kind.Heads (Literal lexeme.CloseParen ∷ []) (Some lexeme.Comma) = refl
 switches_pay _ _ _ = refl
+
+recasts_pay : (k : Kind) (items : List Item) (x : Option Lexeme) → recast_pays (items_energy (node_energy k) items) (recast k items x) ≡ true
+recasts_pay kind.Funbody (Literal lexeme.Semicolon ∷ Kid class.Block ∷ Literal lexeme.Semicolon ∷ []) (Some lexeme.OpenParen) = refl
+recasts_pay kind.Funbody (Literal lexeme.Semicolon ∷ Kid class.Block ∷ Literal lexeme.Semicolon ∷ []) (Some lexeme.Colon) = refl
+recasts_pay kind.Record (Kid class.Fields ∷ Literal lexeme.KeyEnd ∷ []) (Some lexeme.KeyEnd) = refl
+recasts_pay _ _ _ = refl
+
+-- a list that ends in front of its last separator is worth more than the node below past its last `;`
+closes_pay : (i : Kind) (l : List Item) (k : Kind) (m : List Item) → closes i l k m ≡ true → items_energy (node_energy k) (Literal lexeme.KeyEnd ∷ []) < items_energy (node_energy i) l
+closes_pay kind.Arms (Kid class.Arm ∷ []) kind.Case (Kid class.Arms ∷ Literal lexeme.KeyEnd ∷ []) h = omega arith
+closes_pay kind.Fields (Kid class.Field ∷ []) kind.Record (Kid class.Fields ∷ Literal lexeme.KeyEnd ∷ []) h = omega arith
+closes_pay _ _ _ _ h = cc
 
 -- a kid of the class is worth more than what was kept back for it
 gives_pay : (c : Class) (k : Kind) → has c k ≡ true → kept_back c < node_energy k
@@ -122,6 +143,28 @@ module _ {A : Type 0} (make : Kind → List ℕ → List A → A) where
       let q : (is_some x ≡ true) × (ltb (items_energy (node_energy p.0) p.1) 20 ≡ true) = &&_split _ _ pays in
       (q.0, omega (arith, ltb-true _ _ q.1))
 
+  recast_falls : (o : Option (Kind × List Item)) (other : Plan A) (f : Frame A) (fs : List (Frame A)) (x : Option Lexeme) (n : ℕ)
+      → recast_pays n o ≡ true → Falls other x (n + below_energy fs) → Falls (on_recast make o other f fs) x (n + below_energy fs)
+  recast_falls None other f fs x n h i = i
+  recast_falls (Some p) other f fs x n h i = omega (arith, ltb-true _ _ h)
+
+  close_falls : (items : List Item) (f : Frame A) (fs : List (Frame A)) (x : Option Lexeme) → Falls (at_close make items f fs) x (items_energy (node_energy f.kind) items + below_energy fs)
+  close_falls items f [] x = tt
+  close_falls items f (g ∷ fs) x = go (has_kids f.kids && closes f.kind items g.kind g.items) refl
+    where
+      go : (b : Bool) → has_kids f.kids && closes f.kind items g.kind g.items ≡ b → Falls (on_close make b f g fs) x (items_energy (node_energy f.kind) items + below_energy (g ∷ fs))
+      go true h =
+          let less : items_energy (node_energy g.kind) (Literal lexeme.KeyEnd ∷ []) < items_energy (node_energy f.kind) items = closes_pay f.kind items g.kind g.items (&&_split _ _ h).1 in
+          omega (arith, less)
+      go false h = tt
+
+  kid_starts : (g : Start) (other : Plan A) (w : List ℕ) (fs : List (Frame A)) (x : Option Lexeme) (e : ℕ) → Falls (on_start make g w fs) x e → Falls other x e → Falls (on_kid make g other w fs) x e
+  kid_starts (Leaf k) other w fs x e h i = h
+  kid_starts (Open k v m) other w fs x e h i = h
+  kid_starts (Predict k m) other w fs x e h i = h
+  kid_starts (Blank k) other w fs x e h i = h
+  kid_starts NoStart other w fs x e h i = i
+
   again_falls : (o : Option Class) (f : Frame A) (fs : List (Frame A)) (x : Option Lexeme) (w : List ℕ)
       → again_pays f.kind x o ≡ true → Falls (on_again make o x w f fs) x (suc (node_energy f.kind) + below_energy fs)
   again_falls None f fs x w h = omega arith
@@ -137,13 +180,18 @@ module _ {A : Type 0} (make : Kind → List ℕ → List A → A) where
   items_fall (Literal y ∷ m) f fs x w e = go (same_at y x) refl
     where
       go : (b : Bool) → same_at y x ≡ b
-          → Falls (if b then Take (Reading (frame f.kind f.word f.kids m) fs) else on_switch make (switch f.kind (Literal y ∷ m) x) Stuck f fs) x (items_energy (node_energy f.kind) m - 15 + below_energy fs)
+          → Falls (if b then Take (Reading (frame f.kind f.word f.kids m) fs) else on_switch make (switch f.kind (Literal y ∷ m) x) (on_recast make (recast f.kind (Literal y ∷ m) x) Stuck f fs) f fs) x (items_energy (node_energy f.kind) m - 15 + below_energy fs)
       go true h = (same_some y x h, omega arith)
-      go false h = switch_falls (switch f.kind (Literal y ∷ m) x) Stuck f fs x (items_energy (node_energy f.kind) m - 15) (switches_pay f.kind (Literal y ∷ m) x) tt
+      go false h =
+          let n = items_energy (node_energy f.kind) m - 15 in
+          switch_falls (switch f.kind (Literal y ∷ m) x) (on_recast make (recast f.kind (Literal y ∷ m) x) Stuck f fs) f fs x n (switches_pay f.kind (Literal y ∷ m) x)
+          (recast_falls (recast f.kind (Literal y ∷ m) x) Stuck f fs x n (recasts_pay f.kind (Literal y ∷ m) x) tt)
   items_fall (Word y ∷ m) f fs x w e = tt
   items_fall (Kid c ∷ m) f fs x w e =
-      falls_below _ x (kid_energy c + below_energy (f ∷ fs)) (kid_energy c + items_energy (node_energy f.kind) m + below_energy fs)
-      (rw e (omega arith)) (start_falls (start c x) x w (f ∷ fs) (kid_energy c) (starts_pay c x))
+      let n = kid_energy c + items_energy (node_energy f.kind) m in
+      kid_starts (start c x) (on_recast make (recast f.kind (Kid c ∷ m) x) (at_close make (Kid c ∷ m) f fs) f fs) w (f ∷ fs) x (n + below_energy fs)
+      (falls_below _ x (kid_energy c + below_energy (f ∷ fs)) (n + below_energy fs) (rw e (omega arith)) (start_falls (start c x) x w (f ∷ fs) (kid_energy c) (starts_pay c x)))
+      (recast_falls (recast f.kind (Kid c ∷ m) x) (at_close make (Kid c ∷ m) f fs) f fs x n (recasts_pay f.kind (Kid c ∷ m) x) (close_falls (Kid c ∷ m) f fs x))
 
   give_falls : (root : Class) (b : Bool) (c : Class) (k : Kind) (a : A) (m : List Item) (fs : List (Frame A)) (x : Option Lexeme)
       → (b ≡ true → kept_back c < node_energy k) → awaited_by root fs ≡ Some (c, m) → Falls (on_give make b a m fs x) x (node_energy k + below_energy fs)

@@ -47,7 +47,7 @@ abbrev pub all_kinds : List Kind
 all_kinds = kind.Program ∷ kind.Block ∷ kind.Forward ∷ kind.Constdef ∷ kind.Typedef ∷ kind.Vardef ∷ kind.Field ∷ kind.Valparam ∷ kind.Varparam ∷ kind.Procedure ∷ kind.Function ∷ kind.Funbody ∷ kind.Tname ∷ kind.Enum ∷ kind.Subrange ∷ kind.Array ∷ kind.Record ∷ kind.Record0 ∷ kind.Setof ∷ kind.Packed ∷ kind.Pointer ∷ kind.Cnumber ∷ kind.Cstring ∷ kind.Cname ∷ kind.Csign ∷ kind.Empty ∷ kind.Assign ∷ kind.Proc ∷ kind.Compound ∷ kind.If ∷ kind.Ifelse ∷ kind.Case ∷ kind.Arm ∷ kind.Repeat ∷ kind.While ∷ kind.For ∷ kind.With ∷ kind.Ref ∷ kind.Index ∷ kind.Select ∷ kind.Deref ∷ kind.Number ∷ kind.Text ∷ kind.Nil ∷ kind.Call ∷ kind.Parens ∷ kind.Not ∷ kind.Setcon ∷ kind.Mul ∷ kind.Add ∷ kind.Sign ∷ kind.Rel ∷ kind.Width ∷ kind.Span ∷ kind.Name ∷ kind.Heads ∷ kind.Args ∷ kind.Params ∷ kind.Names ∷ kind.Labels ∷ kind.Indexes ∷ kind.Exprs ∷ kind.Accesses ∷ kind.Members ∷ kind.Consts ∷ kind.Types ∷ kind.Vars ∷ kind.Routines ∷ kind.Fields ∷ kind.Stmts ∷ kind.Arms ∷ kind.Hole sort.Program ∷ kind.Hole sort.Block ∷ kind.Hole sort.ConstDef ∷ kind.Hole sort.TypeDef ∷ kind.Hole sort.VarDef ∷ kind.Hole sort.Routine ∷ kind.Hole sort.Parameter ∷ kind.Hole sort.Denoter ∷ kind.Hole sort.Field ∷ kind.Hole sort.Constant ∷ kind.Hole sort.Statement ∷ kind.Hole sort.Arm ∷ kind.Hole sort.Expression ∷ kind.Hole sort.Name ∷ []
 
 abbrev pub all_classes : List Class
-all_classes = class.Program ∷ class.Block ∷ class.Constdef ∷ class.Typedef ∷ class.Vardef ∷ class.Routine ∷ class.Parameter ∷ class.Denoter ∷ class.Structured ∷ class.Ordinal ∷ class.Field ∷ class.Constant ∷ class.Bare ∷ class.Statement ∷ class.Body ∷ class.Arm ∷ class.Argument ∷ class.Member ∷ class.Expression ∷ class.Simple ∷ class.Term ∷ class.Factor ∷ class.Access ∷ class.Name ∷ class.Heads ∷ class.Args ∷ class.Params ∷ class.Names ∷ class.Labels ∷ class.Indexes ∷ class.Exprs ∷ class.Accesses ∷ class.Members ∷ class.Consts ∷ class.Types ∷ class.Vars ∷ class.Routines ∷ class.Fields ∷ class.Stmts ∷ class.Arms ∷ []
+all_classes = class.Program ∷ class.Block ∷ class.Constdef ∷ class.Typedef ∷ class.Vardef ∷ class.Routine ∷ class.Parameter ∷ class.Denoter ∷ class.Structured ∷ class.Ordinal ∷ class.Field ∷ class.Constant ∷ class.Bare ∷ class.Statement ∷ class.Body ∷ class.Arm ∷ class.Argument ∷ class.Member ∷ class.Expression ∷ class.Simple ∷ class.Term ∷ class.Factor ∷ class.Access ∷ class.Name ∷ class.Heads ∷ class.Args ∷ class.Params ∷ class.Names ∷ class.Labels ∷ class.Indexes ∷ class.Exprs ∷ class.Accesses ∷ class.Members ∷ class.Consts ∷ class.Types ∷ class.Vars ∷ class.Routines ∷ class.Fields ∷ class.Stmts ∷ class.Arms ∷ class.Operand ∷ []
 
 abbrev pub all_lookaheads : List (Option Lexeme)
 all_lookaheads = None ∷ Some lexeme.KeyAnd ∷ Some lexeme.KeyArray ∷ Some lexeme.KeyBegin ∷ Some lexeme.KeyCase ∷ Some lexeme.KeyConst ∷ Some lexeme.KeyDiv ∷ Some lexeme.KeyDo ∷ Some lexeme.KeyDownto ∷ Some lexeme.KeyElse ∷ Some lexeme.KeyEnd ∷ Some lexeme.KeyFile ∷ Some lexeme.KeyFor ∷ Some lexeme.KeyFunction ∷ Some lexeme.KeyGoto ∷ Some lexeme.KeyIf ∷ Some lexeme.KeyIn ∷ Some lexeme.KeyLabel ∷ Some lexeme.KeyMod ∷ Some lexeme.KeyNil ∷ Some lexeme.KeyNot ∷ Some lexeme.KeyOf ∷ Some lexeme.KeyOr ∷ Some lexeme.KeyPacked ∷ Some lexeme.KeyProcedure ∷ Some lexeme.KeyProgram ∷ Some lexeme.KeyRecord ∷ Some lexeme.KeyRepeat ∷ Some lexeme.KeySet ∷ Some lexeme.KeyThen ∷ Some lexeme.KeyTo ∷ Some lexeme.KeyType ∷ Some lexeme.KeyUntil ∷ Some lexeme.KeyVar ∷ Some lexeme.KeyWhile ∷ Some lexeme.KeyWith ∷ Some lexeme.Plus ∷ Some lexeme.Minus ∷ Some lexeme.Star ∷ Some lexeme.Slash ∷ Some lexeme.Equal ∷ Some lexeme.Less ∷ Some lexeme.Greater ∷ Some lexeme.OpenBracket ∷ Some lexeme.CloseBracket ∷ Some lexeme.Dot ∷ Some lexeme.Comma ∷ Some lexeme.Colon ∷ Some lexeme.Semicolon ∷ Some lexeme.Caret ∷ Some lexeme.OpenParen ∷ Some lexeme.CloseParen ∷ Some lexeme.Unequal ∷ Some lexeme.AtMost ∷ Some lexeme.AtLeast ∷ Some lexeme.Becomes ∷ Some lexeme.DotDot ∷ Some lexeme.Identifier ∷ Some lexeme.Numeral ∷ Some lexeme.Text ∷ Some (lexeme.Hole sort.Program) ∷ Some (lexeme.Hole sort.Block) ∷ Some (lexeme.Hole sort.ConstDef) ∷ Some (lexeme.Hole sort.TypeDef) ∷ Some (lexeme.Hole sort.VarDef) ∷ Some (lexeme.Hole sort.Routine) ∷ Some (lexeme.Hole sort.Parameter) ∷ Some (lexeme.Hole sort.Denoter) ∷ Some (lexeme.Hole sort.Field) ∷ Some (lexeme.Hole sort.Constant) ∷ Some (lexeme.Hole sort.Statement) ∷ Some (lexeme.Hole sort.Arm) ∷ Some (lexeme.Hole sort.Expression) ∷ Some (lexeme.Hole sort.Name) ∷ []
@@ -189,6 +189,7 @@ class_place class.Routines = 36
 class_place class.Fields = 37
 class_place class.Stmts = 38
 class_place class.Arms = 39
+class_place class.Operand = 40
 
 pub class_nth : (c : Class) → nth all_classes (class_place c) ≡ Some c
 class_nth class.Program = refl

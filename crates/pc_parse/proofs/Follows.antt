@@ -1,5 +1,5 @@
 -- Which kinds may stand finished where a class is awaited, and which symbols may follow one.
-use Rattle.std.proofs.Common.{◌≡◌, ℕ, Bool, true, false, not, ◌&&◌, ◌||◌, if◌then◌else◌, List, Option, Some, None, refl}
+use Rattle.std.proofs.Common.{◌≡◌, Bool, true, false, not, ◌&&◌, ◌||◌, if◌then◌else◌, Option, Some, None, refl}
 use Rattle.pc_syntax.specs.declared.lexeme.Lexeme.{Lexeme}
 use Rattle.pc_syntax.specs.declared.lexeme.Lexeme.TheVariants as lexeme
 use Rattle.pc_syntax.specs.declared.kind.Kind.{Kind}
@@ -8,27 +8,14 @@ use Rattle.pc_syntax.specs.declared.sort.Sort.TheVariants as sort
 use Rattle.pc_syntax.specs.declared.class.Class.{Class}
 use Rattle.pc_syntax.specs.declared.class.Class.TheVariants as class
 use Rattle.pc_syntax.specs.Classes.{has}
-use Rattle.pc_syntax.specs.Layout.{layout}
-use Rattle.pc_syntax.specs.WellFormed.{fits_some, opens}
+use Rattle.pc_syntax.specs.WellFormed.{opens}
 use Rattle.pc_parse.specs.Lookahead.{same_at}
-use Rattle.pc_parse.specs.Reading.{readable, lay}
 use Rattle.pc_parse.specs.Tables.{Grow, Give, Wrap, Shift, Enter, grow, multiplies, adds, relates}
 use Rattle.pc_parse.proofs.Entries.{each, implies, implies_true, &&_split, all_kinds, all_classes, all_lookaheads, at_kind, at_class, at_lookahead}
 
--- the kinds of nodes that can be read
+-- the kinds of nodes that are read: every kind
 abbrev pub known : Kind → Bool
-known k = readable k 0
-
-pub known_of : (k : Kind) (n : ℕ) → readable k n ≡ true → known k ≡ true
-known_of kind.Program n h = cc
-known_of _ n h = cc
-
-pub readable_of : (k : Kind) (w : List ℕ) (n : ℕ) (ks : List Kind) → fits_some (lay k w n) ks ≡ true → readable k n ≡ true
-readable_of k w n ks h = go (readable k n) h
-  where
-    go : (b : Bool) → fits_some (if b then layout k w n else None) ks ≡ true → b ≡ true
-    go true e = refl
-    go false e = cc
+known k = true
 
 -- the classes whose kids the machine reads
 abbrev pub knows : Class → Bool
@@ -40,6 +27,7 @@ knows class.Statement = true
 knows class.Body = true
 knows class.Argument = true
 knows class.Member = true
+knows class.Operand = true
 knows class.Expression = true
 knows class.Simple = true
 knows class.Term = true
@@ -48,6 +36,7 @@ knows class.Access = true
 knows class.Name = true
 knows class.Heads = true
 knows class.Args = true
+knows class.Params = true
 knows class.Names = true
 knows class.Exprs = true
 knows class.Accesses = true
@@ -68,7 +57,9 @@ knows class.Structured = true
 knows class.Ordinal = true
 knows class.Indexes = true
 knows class.Arm = true
-knows _ = false
+knows class.Labels = true
+knows class.Fields = true
+knows class.Arms = true
 
 -- the kinds that are held first where a node of another kind is awaited
 abbrev pub precedes : Class → Kind → Bool
@@ -80,6 +71,7 @@ precedes class.Statement kind.Select = true
 precedes class.Statement kind.Deref = true
 precedes class.Argument kind.Name = true
 precedes class.Member kind.Name = true
+precedes class.Operand kind.Name = true
 precedes class.Expression kind.Name = true
 precedes class.Simple kind.Name = true
 precedes class.Term kind.Name = true
@@ -89,6 +81,7 @@ precedes class.Denoter (kind.Hole sort.Name) = true
 precedes class.Statement (kind.Hole sort.Name) = true
 precedes class.Argument (kind.Hole sort.Name) = true
 precedes class.Member (kind.Hole sort.Name) = true
+precedes class.Operand (kind.Hole sort.Name) = true
 precedes class.Expression (kind.Hole sort.Name) = true
 precedes class.Simple (kind.Hole sort.Name) = true
 precedes class.Term (kind.Hole sort.Name) = true
@@ -130,14 +123,19 @@ ends_statement (Some lexeme.KeyUntil) = true
 ends_statement _ = false
 
 abbrev pub ends_argument : Option Lexeme → Bool
-ends_argument None = true
 ends_argument (Some lexeme.Comma) = true
 ends_argument (Some lexeme.CloseParen) = true
 ends_argument _ = false
 
+-- an expression by itself ends with the symbols
+abbrev pub ends_operand : Option Lexeme → Bool
+ends_operand None = true
+ends_operand _ = false
+
 abbrev pub ends_expression : Option Lexeme → Bool
 ends_expression (Some lexeme.KeyThen) = true
 ends_expression (Some lexeme.KeyDo) = true
+ends_expression (Some lexeme.KeyOf) = true
 ends_expression (Some lexeme.KeyTo) = true
 ends_expression (Some lexeme.KeyDownto) = true
 ends_expression (Some lexeme.CloseParen) = true
@@ -182,23 +180,48 @@ ends_members x = same_at lexeme.CloseBracket x
 abbrev pub ends_heads : Option Lexeme → Bool
 ends_heads x = same_at lexeme.Semicolon x
 
-abbrev pub ends_consts : Option Lexeme → Bool
-ends_consts (Some lexeme.KeyType) = true
-ends_consts (Some lexeme.KeyVar) = true
-ends_consts (Some lexeme.KeyBegin) = true
-ends_consts (Some (lexeme.Hole sort.Statement)) = true
-ends_consts _ = false
+abbrev pub ends_params : Option Lexeme → Bool
+ends_params (Some lexeme.Semicolon) = true
+ends_params (Some lexeme.Colon) = true
+ends_params _ = false
+
+abbrev pub ends_routines : Option Lexeme → Bool
+ends_routines (Some lexeme.KeyBegin) = true
+ends_routines (Some (lexeme.Hole sort.Statement)) = true
+ends_routines _ = false
+
+abbrev pub ends_vars : Option Lexeme → Bool
+ends_vars (Some lexeme.KeyProcedure) = true
+ends_vars (Some lexeme.KeyFunction) = true
+ends_vars (Some (lexeme.Hole sort.Routine)) = true
+ends_vars x = ends_routines x
 
 abbrev pub ends_types : Option Lexeme → Bool
 ends_types (Some lexeme.KeyVar) = true
-ends_types (Some lexeme.KeyBegin) = true
-ends_types (Some (lexeme.Hole sort.Statement)) = true
-ends_types _ = false
+ends_types x = ends_vars x
+
+abbrev pub ends_consts : Option Lexeme → Bool
+ends_consts (Some lexeme.KeyType) = true
+ends_consts x = ends_types x
 
 abbrev pub ends_denoter : Option Lexeme → Bool
 ends_denoter None = true
 ends_denoter (Some lexeme.Semicolon) = true
+ends_denoter (Some lexeme.KeyEnd) = true
 ends_denoter _ = false
+
+abbrev pub ends_labels : Option Lexeme → Bool
+ends_labels x = same_at lexeme.Colon x
+
+-- what ends an arm or a field
+abbrev pub ends_part : Option Lexeme → Bool
+ends_part None = true
+ends_part (Some lexeme.Semicolon) = true
+ends_part (Some lexeme.KeyEnd) = true
+ends_part _ = false
+
+abbrev pub ends_parts : Option Lexeme → Bool
+ends_parts x = same_at lexeme.KeyEnd x
 
 abbrev pub ends_ordinal : Option Lexeme → Bool
 ends_ordinal (Some lexeme.Comma) = true
@@ -207,11 +230,6 @@ ends_ordinal x = ends_denoter x
 
 abbrev pub ends_indexes : Option Lexeme → Bool
 ends_indexes x = same_at lexeme.CloseBracket x
-
-abbrev pub ends_vars : Option Lexeme → Bool
-ends_vars (Some lexeme.KeyBegin) = true
-ends_vars (Some (lexeme.Hole sort.Statement)) = true
-ends_vars _ = false
 
 abbrev pub ends_stmts : Option Lexeme → Bool
 ends_stmts (Some lexeme.KeyEnd) = true
@@ -227,9 +245,11 @@ follow class.Simple x = ends_expression x
 follow class.Expression x = ends_expression x
 follow class.Argument x = ends_argument x
 follow class.Member x = ends_member x
+follow class.Operand x = ends_operand x
 follow class.Statement x = ends_statement x
 follow class.Heads x = ends_heads x
 follow class.Args x = ends_statement x
+follow class.Params x = ends_params x
 follow class.Names x = ends_names x
 follow class.Exprs x = ends_exprs x
 follow class.Accesses x = ends_accesses x
@@ -238,9 +258,15 @@ follow class.Denoter x = ends_denoter x
 follow class.Structured x = ends_denoter x
 follow class.Ordinal x = ends_ordinal x
 follow class.Indexes x = ends_indexes x
+follow class.Labels x = ends_labels x
+follow class.Arm x = ends_part x
+follow class.Arms x = ends_parts x
+follow class.Field x = ends_part x
+follow class.Fields x = ends_parts x
 follow class.Types x = ends_types x
 follow class.Consts x = ends_consts x
 follow class.Vars x = ends_vars x
+follow class.Routines x = ends_routines x
 follow class.Stmts x = ends_stmts x
 follow c x = knows c
 
@@ -281,6 +307,7 @@ tail c kind.Width x = ends_expression x
 tail c kind.Span x = ends_expression x
 tail c kind.Heads x = ends_heads x
 tail c kind.Args x = ends_statement x
+tail c kind.Params x = ends_params x
 tail c kind.Names x = ends_names x
 tail c kind.Exprs x = ends_exprs x
 tail c kind.Accesses x = ends_accesses x
@@ -291,9 +318,15 @@ tail c kind.Array x = ends_denoter x
 tail c kind.Setof x = ends_ordinal x
 tail c kind.Packed x = ends_denoter x
 tail c kind.Indexes x = ends_indexes x
+tail c kind.Labels x = ends_labels x
+tail c kind.Arm x = ends_part x
+tail c kind.Arms x = ends_parts x
+tail c kind.Field x = ends_part x
+tail c kind.Fields x = ends_parts x
 tail c kind.Types x = ends_types x
 tail c kind.Consts x = ends_consts x
 tail c kind.Vars x = ends_vars x
+tail c kind.Routines x = ends_routines x
 tail c kind.Stmts x = ends_stmts x
 tail c k x = true
 
@@ -307,7 +340,7 @@ abbrev pub free : Class → Bool
 free class.Name = true
 free class.Constdef = true
 free class.Typedef = true
-free class.Routines = true
+free class.Routine = true
 free class.Vardef = true
 free c = false
 
@@ -343,18 +376,26 @@ follow_knows class.Argument x h = refl
 follow_knows class.Statement x h = refl
 follow_knows class.Heads x h = refl
 follow_knows class.Args x h = refl
+follow_knows class.Params x h = refl
 follow_knows class.Names x h = refl
 follow_knows class.Exprs x h = refl
 follow_knows class.Accesses x h = refl
 follow_knows class.Member x h = refl
+follow_knows class.Operand x h = refl
 follow_knows class.Members x h = refl
 follow_knows class.Denoter x h = refl
 follow_knows class.Structured x h = refl
 follow_knows class.Ordinal x h = refl
 follow_knows class.Indexes x h = refl
+follow_knows class.Labels x h = refl
+follow_knows class.Arm x h = refl
+follow_knows class.Arms x h = refl
+follow_knows class.Field x h = refl
+follow_knows class.Fields x h = refl
 follow_knows class.Types x h = refl
 follow_knows class.Consts x h = refl
 follow_knows class.Vars x h = refl
+follow_knows class.Routines x h = refl
 follow_knows class.Stmts x h = refl
 follow_knows _ x h = h
 

@@ -1,5 +1,5 @@
 -- What the nodes of some kinds begin with.
-use Rattle.std.proofs.Common.{◌≡◌, ℕ, suc, ◌==◌, eqb-true, Bool, true, false, ◌&&◌, List, [], ◌∷◌, ◌++◌, Option, Some, None, refl, ap, sym, ◌∙◌, append_assoc}
+use Rattle.std.proofs.Common.{◌≡◌, ℕ, Bool, true, false, ◌&&◌, List, [], ◌∷◌, ◌++◌, Option, Some, None, refl, ap, sym, ◌∙◌, append_assoc}
 use Rattle.pc_syntax.specs.declared.lexeme.Lexeme.{Lexeme}
 use Rattle.pc_syntax.specs.declared.lexeme.Lexeme.TheVariants as lexeme
 use Rattle.pc_syntax.specs.declared.kind.Kind.{Kind}
@@ -17,11 +17,10 @@ use Rattle.pc_syntax.specs.Symbols.{Sym, fill, texts, symbols}
 use Rattle.pc_syntax.specs.Words.{is_identifier, is_numeral, is_text}
 use Rattle.pc_syntax.specs.WellFormed.{fits, fits_some}
 use Rattle.pc_parse.specs.Lookahead.{look}
-use Rattle.pc_parse.specs.Reading.{readable, lay}
 use Rattle.pc_parse.proofs.Entries.{each, implies, implies_true, &&_split, &&_join, all_kinds, at_kind}
-use Rattle.pc_parse.proofs.Follows.{known, readable_of}
+use Rattle.pc_parse.proofs.Follows.{known}
 use Rattle.pc_parse.proofs.TableTests.{same_look, same_look_refl, or_left, or_right, one_at, among_at, operator_found, at_whenever}
-use Rattle.pc_parse.proofs.Simulates.{Front, AllRead, first, is_in_set, begins_name, begins_body}
+use Rattle.pc_parse.proofs.Simulates.{Front, AllRead, first, is_in_set, begins_name, begins_body, begins_routine, begins_constant}
 
 -- a leaf's word passes its test, and a leaf has no kids
 pub leaf_fits : (b : Bool) (x : Lexeme) (ks : List Kind) → fits_some (spelled b x) ks ≡ true → (b ≡ true) × (ks ≡ [])
@@ -37,17 +36,12 @@ around_fits (Some x) before behind ks h = (x, refl, h)
 
 -- what is asked of each kind
 abbrev pub IsFront : Kind → Type 0
-IsFront k = (w : List ℕ) (ks : Forest) → fits_some (lay k w (count ks)) (kinds ks) ≡ true → AllRead ks → Front k w ks
+IsFront k = (w : List ℕ) (ks : Forest) → fits_some (layout k w (count ks)) (kinds ks) ≡ true → AllRead ks → Front k w ks
 
 -- the first symbol of a kid and what follows it
 pub kid_first : (i : Kind) (v : List ℕ) (is : Forest) (l : List Item) (w : List ℕ) (ts : Forest) (rest : List Sym) → Front i v is
     → first i (look (fill l w (texts ts) ++ rest)) (look ((symbols i v is ++ fill l w (texts ts)) ++ rest)) ≡ true
 kid_first i v is l w ts rest front = rw (append_assoc (symbols i v is) (fill l w (texts ts)) rest) (front (fill l w (texts ts) ++ rest))
-
--- a list that is empty so far has no kids
-pub no_kids : {A : Type 0} → (k : Kind) (w : List ℕ) (n : ℕ) (ks : List Kind) → readable k (suc n) ≡ (suc n == 0) → fits_some (lay k w (suc n)) ks ≡ true → A
-no_kids k w n ks is h =
-    let e : suc n ≡ 0 = eqb-true (suc n) 0 (sym is ∙ readable_of k w (suc n) ks h) in cc
 
 -- what an expression or a range begins with
 pub member_first : (i : Kind) (s x : Option Lexeme) → has class.Member i && known i ≡ true → first i s x ≡ true → is_in_set x ≡ true
@@ -215,6 +209,14 @@ vardef [] (Cons i v ns is ts) fit all rest =
     ap (λ o. first o (look (fill l [] (texts ts) ++ rest)) (look ((symbols i v is ++ fill l [] (texts ts)) ++ rest))) (sym e) ∙ kid_first i v is l [] ts rest all.2
 vardef (b ∷ w) ks fit all rest = cc
 
+field : IsFront kind.Field
+field [] Nil fit all rest = cc
+field [] (Cons i v ns is ts) fit all rest =
+    let l = Literal lexeme.Colon ∷ Kid class.Denoter ∷ [] in
+    let e : i ≡ kind.Names = one_at class.Names kind.Names i refl (&&_join _ _ (&&_split _ _ fit).0 all.0) in
+    ap (λ o. first o (look (fill l [] (texts ts) ++ rest)) (look ((symbols i v is ++ fill l [] (texts ts)) ++ rest))) (sym e) ∙ kid_first i v is l [] ts rest all.2
+field (b ∷ w) ks fit all rest = cc
+
 compound : IsFront kind.Compound
 compound [] ks fit all rest = refl
 compound (b ∷ w) ks fit all rest = cc
@@ -253,10 +255,98 @@ typedef [] (Cons i v ns is ts) fit all rest =
     name_begins i (look (fill l [] (texts ts) ++ rest)) (look ((symbols i v is ++ fill l [] (texts ts)) ++ rest)) (&&_join _ _ (&&_split _ _ fit).0 all.0) (kid_first i v is l [] ts rest all.2)
 typedef (b ∷ w) ks fit all rest = cc
 
+cnumber : IsFront kind.Cnumber
+cnumber w Nil fit all rest =
+    let p = leaf_fits (is_numeral w) lexeme.Numeral [] fit in
+    rw p.0 refl
+cnumber w (Cons i v ns is ts) fit all rest =
+    let p = leaf_fits (is_numeral w) lexeme.Numeral (i ∷ kinds ts) fit in
+    let e : i ∷ kinds ts ≡ [] = p.1 in cc
+
+cstring : IsFront kind.Cstring
+cstring w Nil fit all rest =
+    let p = leaf_fits (is_text w) lexeme.Text [] fit in
+    rw p.0 refl
+cstring w (Cons i v ns is ts) fit all rest =
+    let p = leaf_fits (is_text w) lexeme.Text (i ∷ kinds ts) fit in
+    let e : i ∷ kinds ts ≡ [] = p.1 in cc
+
+cname : IsFront kind.Cname
+cname [] Nil fit all rest = cc
+cname [] (Cons i v ns is ts) fit all rest =
+    at_whenever begins_name begins_constant (look ((symbols i v is ++ fill [] [] (texts ts)) ++ rest)) refl
+    (name_begins i (look (fill [] [] (texts ts) ++ rest)) (look ((symbols i v is ++ fill [] [] (texts ts)) ++ rest)) (&&_join _ _ (&&_split _ _ fit).0 all.0) (kid_first i v is [] [] ts rest all.2))
+cname (b ∷ w) ks fit all rest = cc
+
+csign : IsFront kind.Csign
+csign w ks fit all rest =
+    let a = around_fits (operator signs w) [] (Kid class.Bare ∷ []) (kinds ks) fit in
+    let found = operator_found signs w a.0 a.1 in
+    let made : layout kind.Csign w (count ks) ≡ Some (Literal a.0 ∷ Kid class.Bare ∷ []) = ap (λ o. around o [] (Kid class.Bare ∷ [])) a.1 in
+    let begun : begins_constant (Some a.0) ≡ true = at_whenever (among_at signs) begins_constant (Some a.0) refl found.1 in
+    rw made begun
+
+-- what a constant begins with
+constant_first : (i : Kind) (s x : Option Lexeme) → has class.Constant i && known i ≡ true → first i s x ≡ true → begins_constant x ≡ true
+constant_first kind.Cnumber s x h e = e
+constant_first (kind.Hole sort.Constant) s x h e = at_whenever (λ y. same_look y (Some (lexeme.Hole sort.Constant))) begins_constant x refl e
+constant_first (kind.Hole _) s x h e = cc
+constant_first _ s x h e = cc
+
+labels : IsFront kind.Labels
+labels [] Nil fit all rest = cc
+labels [] (Cons i v ns is ts) fit all rest =
+    let l = further (Some lexeme.Comma) class.Constant (count ts) [] in
+    constant_first i (look (fill l [] (texts ts) ++ rest)) (look ((symbols i v is ++ fill l [] (texts ts)) ++ rest)) (&&_join _ _ (&&_split _ _ fit).0 all.0) (kid_first i v is l [] ts rest all.2)
+labels (b ∷ w) ks fit all rest = cc
+
+params : IsFront kind.Params
+params [] Nil fit all rest = or_right (same_look (look rest) (Some lexeme.OpenParen)) (same_look (look rest) (look rest)) (same_look_refl (look rest))
+params [] (Cons i v ns is ts) fit all rest = refl
+params (b ∷ w) ks fit all rest = cc
+
+valparam : IsFront kind.Valparam
+valparam [] Nil fit all rest = cc
+valparam [] (Cons i v ns is ts) fit all rest =
+    let l = Literal lexeme.Colon ∷ Kid class.Name ∷ [] in
+    let e : i ≡ kind.Names = one_at class.Names kind.Names i refl (&&_join _ _ (&&_split _ _ fit).0 all.0) in
+    ap (λ o. first o (look (fill l [] (texts ts) ++ rest)) (look ((symbols i v is ++ fill l [] (texts ts)) ++ rest))) (sym e) ∙ kid_first i v is l [] ts rest all.2
+valparam (b ∷ w) ks fit all rest = cc
+
+procedure : IsFront kind.Procedure
+procedure [] ks fit all rest = refl
+procedure (b ∷ w) ks fit all rest = cc
+
+function : IsFront kind.Function
+function [] ks fit all rest = refl
+function (b ∷ w) ks fit all rest = cc
+
+funbody : IsFront kind.Funbody
+funbody [] ks fit all rest = refl
+funbody (b ∷ w) ks fit all rest = cc
+
+-- what a procedure or a function begins with
+pub routine_begins : (i : Kind) (s x : Option Lexeme) → has class.Routine i && known i ≡ true → first i s x ≡ true → begins_routine x ≡ true
+routine_begins kind.Procedure s x h e = at_whenever (λ y. same_look y (Some lexeme.KeyProcedure)) begins_routine x refl e
+routine_begins kind.Function s x h e = at_whenever (λ y. same_look y (Some lexeme.KeyFunction)) begins_routine x refl e
+routine_begins kind.Funbody s x h e = at_whenever (λ y. same_look y (Some lexeme.KeyFunction)) begins_routine x refl e
+routine_begins (kind.Hole sort.Routine) s x h e = at_whenever (λ y. same_look y (Some (lexeme.Hole sort.Routine))) begins_routine x refl e
+routine_begins (kind.Hole _) s x h e = cc
+routine_begins _ s x h e = cc
+
+-- what a list of them begins with
+pub routines_begin : (i : Kind) (v : List ℕ) (is ts : Forest) (rest : List Sym) → has class.Routine i && known i ≡ true → Front i v is
+    → begins_routine (look ((symbols i v is ++ fill (further None class.Routine (count ts) []) [] (texts ts)) ++ rest)) ≡ true
+routines_begin i v is ts rest member begins =
+    let l = further None class.Routine (count ts) [] in
+    routine_begins i (look (fill l [] (texts ts) ++ rest)) (look ((symbols i v is ++ fill l [] (texts ts)) ++ rest)) member (kid_first i v is l [] ts rest begins)
+
 routines : IsFront kind.Routines
-routines [] Nil fit all rest = same_look_refl (look rest)
-routines (b ∷ w) Nil fit all rest = cc
-routines w (Cons i v ns is ts) fit all rest = no_kids kind.Routines w (count ts) (i ∷ kinds ts) refl fit
+routines [] Nil fit all rest = or_right (begins_routine (look rest)) (same_look (look rest) (look rest)) (same_look_refl (look rest))
+routines [] (Cons i v ns is ts) fit all rest =
+    let x = look (symbols kind.Routines [] (Cons i v ns is ts) ++ rest) in
+    or_left (begins_routine x) (same_look x (look rest)) (routines_begin i v is ts rest (&&_join _ _ (&&_split _ _ fit).0 all.0) all.2)
+routines (b ∷ w) ks fit all rest = cc
 
 hole : (r : Sort) → IsFront (kind.Hole r)
 hole r [] Nil fit all rest = same_look_refl (Some (lexeme.Hole r))
@@ -284,6 +374,7 @@ front kind.Rel w ks fit all = rel w ks fit all
 front kind.Span w ks fit all = span w ks fit all
 front kind.Names w ks fit all = names w ks fit all
 front kind.Vardef w ks fit all = vardef w ks fit all
+front kind.Field w ks fit all = field w ks fit all
 front kind.Compound w ks fit all = compound w ks fit all
 front kind.Vars w ks fit all = vars w ks fit all
 front kind.Args w ks fit all = args w ks fit all
@@ -291,6 +382,16 @@ front kind.Constdef w ks fit all = constdef w ks fit all
 front kind.Consts w ks fit all = consts w ks fit all
 front kind.Typedef w ks fit all = typedef w ks fit all
 front kind.Types w ks fit all = types w ks fit all
+front kind.Params w ks fit all = params w ks fit all
+front kind.Valparam w ks fit all = valparam w ks fit all
+front kind.Procedure w ks fit all = procedure w ks fit all
+front kind.Function w ks fit all = function w ks fit all
+front kind.Funbody w ks fit all = funbody w ks fit all
 front kind.Routines w ks fit all = routines w ks fit all
+front kind.Cnumber w ks fit all = cnumber w ks fit all
+front kind.Cstring w ks fit all = cstring w ks fit all
+front kind.Cname w ks fit all = cname w ks fit all
+front kind.Csign w ks fit all = csign w ks fit all
+front kind.Labels w ks fit all = labels w ks fit all
 front (kind.Hole r) w ks fit all = hole r w ks fit all
 front _ w ks fit all = λ rest. refl

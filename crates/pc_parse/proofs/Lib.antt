@@ -1,4 +1,7 @@
+pub mod BarePartial
+pub mod Breadths
 pub mod Complete
+pub mod Completion
 pub mod Declarations
 pub mod Energy
 pub mod Entries
@@ -6,14 +9,21 @@ pub mod Expressions
 pub mod Follows
 pub mod Fronts
 pub mod Items
-pub mod LeafLaws
 pub mod Leading
+pub mod LeafLaws
+pub mod Least
+pub mod LexedNotes
 pub mod Loop
 pub mod Nodes
+pub mod NotedPartial
+pub mod NotesOnce
+pub mod Parts
 pub mod Payload
 pub mod Reached
+pub mod Routines
 pub mod Simulates
 pub mod Sound
+pub mod SoundCloses
 pub mod SoundFrames
 pub mod SoundStates
 pub mod SoundSwitches
@@ -21,3 +31,6 @@ pub mod SoundTables
 pub mod Stacks
 pub mod Statements
 pub mod TableTests
+pub mod Unnoted
+pub mod Viable
+pub mod Walking

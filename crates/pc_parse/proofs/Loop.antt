@@ -18,16 +18,23 @@ use Rattle.pc_parse.specs.declared.machine.Position.{Position}
 use Rattle.pc_parse.specs.declared.machine.Position.TheVariants as position
 use Rattle.pc_parse.specs.Lookahead.{look, word_at, after}
 use Rattle.pc_parse.specs.Proper.{is_empty, proper, Proper}
-use Rattle.pc_parse.specs.Reading.{class_of, Reads}
+use Rattle.pc_parse.specs.Reading.{class_of, ReadsBare}
+use Rattle.pc_parse.specs.Machine.{Opening, Stuck, plan}
+use Rattle.pc_parse.specs.Runs.{make_plain, Go, exec}
 use Rattle.pc_parse.specs.Rows.{cut, is_within}
 use Rattle.pc_parse.specs.Measured as measured
-use Rattle.pc_parse.specs.Answers.{IsRead, IsWithin, IsUnfit}
-use Rattle.pc_parse.specs.Views.{state_view, row_view, IsBuildable}
+use Rattle.pc_parse.specs.Answers.{IsWithin, IsUnfit}
+use Rattle.pc_parse.specs.Ends.{IsFound}
+use Rattle.pc_layout.specs.Noted.{unnoted}
+use Rattle.pc_parse.proofs.Unnoted.{bare_reads}
+use Rattle.pc_parse.proofs.NotedPartial.{begins_noted, begins_bare}
+use Rattle.pc_parse.specs.Views.{frame_view, state_view, row_view, IsBuildable}
 use Rattle.pc_parse.proofs.Energy.{is_some}
 use Rattle.pc_parse.proofs.Entries.{&&_split, &&_join}
-use Rattle.pc_parse.proofs.Reached.{Reached, energy_kept, moved_on, moved_falls, took_on, took_has, took_falls, ended_with, refused_at, held_proper}
+use Rattle.pc_parse.proofs.Reached.{Reached, energy_kept, moved_on, moved_falls, took_on, took_has, took_falls, ended_with, stuck_at, refused_at, held_proper, closing_proper}
 use Rattle.pc_parse.proofs.Sound.{sound}
 use Rattle.pc_parse.proofs.Complete.{unique_sort, unfit_sort}
+use Rattle.pc_parse.proofs.Least.{begins_before, begins_none}
 
 -- the symbols from a place on
 pub after_drop : (n : ℕ) (xs : List Symbol) → after (syms (plain_symbols (drop n xs))) ≡ syms (plain_symbols (drop (suc n) xs))
@@ -45,6 +52,15 @@ has_drop (suc n) (x ∷ xs) h = omega (arith, has_drop n xs h)
 length-plain_symbols : (xs : List Symbol) → length (plain_symbols xs) ≡ length xs
 length-plain_symbols [] = refl
 length-plain_symbols (x ∷ xs) = ap suc (length-plain_symbols xs)
+
+length-syms : (xs : List Symbol) → length (syms (plain_symbols xs)) ≡ length xs
+length-syms [] = refl
+length-syms (x ∷ xs) = ap suc (length-syms xs)
+
+syms-drop : (n : ℕ) (xs : List Symbol) → drop n (syms (plain_symbols xs)) ≡ syms (plain_symbols (drop n xs))
+syms-drop zero xs = refl
+syms-drop (suc n) [] = refl
+syms-drop (suc n) (x ∷ xs) = syms-drop n xs
 
 -- a turn of the loop: what is kept of a state that the machine reaches before the symbols from a place on, and what
 -- the machine does there
@@ -78,23 +94,33 @@ module _ {c : Class} {xs : List Symbol} {at : ℕ} {s : measured.State} {p : mea
 
 pub buildable : (c : Class) (input : List Sym) (p : Position) (fs : List measured.Frame) (ys : List Sym) → Proper input → Reached c input (state_view p fs) ys → IsBuildable p
 buildable c input position.Opening fs ys clean r = tt
-buildable c input (position.Within f) fs ys clean r = tt
+buildable c input (position.Within f) fs ys clean r = λ k m ends some. closing_proper c input (frame_view f) fs ys k m clean r ends some
 buildable c input (position.Ended n) fs ys clean r = held_proper c input n.kind n.word.now (row_view n.kids) fs ys clean r
 
 -- the tree with which the machine ends is the only one that has the symbols
 pub found : (s : Sort) (xs : List Symbol) (at : ℕ) (st : measured.State) (p : measured.Plan) (k : Cut) → Proper (syms (plain_symbols xs)) → Turn (class_of s) xs at st p → p ≡ measured.End k
-    → (t : Plain) × IsRead (class_of s) (plain_symbols xs) t × (k ≡ cut t)
+    → (t : Plain) × IsFound (class_of s) (plain_symbols xs) t × (k ≡ cut t)
 found s xs at st p k clean t e =
     let r = ended_with (class_of s) (syms (plain_symbols xs)) st _ t.reached p t.planned k e in
-    let h : Reads (class_of s) r.0 (syms (plain_symbols xs)) = sound (class_of s) (syms (plain_symbols xs)) r.1 r.0 clean r.2 in
+    let h : ReadsBare (class_of s) r.0 (syms (plain_symbols xs)) = sound (class_of s) (syms (plain_symbols xs)) r.1 r.0 clean r.2 in
     (r.0, record { reads = h; only = λ u i. unique_sort s r.0 u (syms (plain_symbols xs)) h i }, r.3)
 
--- where the machine refuses a symbol, no tree has the symbols
-pub missed : (s : Sort) (xs : List Symbol) (at : ℕ) (st : measured.State) (p : measured.Plan) → at ≤ length xs → Turn (class_of s) xs at st p → p ≡ measured.Stuck
+-- where the machine refuses a symbol, no tree has the symbols, and those up to that symbol are the first that begin no text
+pub missed : (s : Sort) (xs : List Symbol) (at : ℕ) (st : measured.State) (p : measured.Plan) → Proper (syms (plain_symbols xs)) → at ≤ length xs → Turn (class_of s) xs at st p → p ≡ measured.Stuck
     → IsUnfit (class_of s) (plain_symbols xs) (at + 1)
-missed s xs at st p within t e =
-    let r = refused_at (class_of s) (syms (plain_symbols xs)) st _ t.reached p t.planned e in
-    record { none = λ u h. unfit_sort s r.0 u (syms (plain_symbols xs)) _ r.1 h; positive = omega arith; within = omega (arith, length-plain_symbols xs, within) }
+missed s xs at st p clean within t e =
+    let input = syms (plain_symbols xs) in
+    let r = refused_at (class_of s) input st _ t.reached p t.planned e in
+    let run : exec (class_of s) t.reached.count Opening input ≡ Go t.reached.state (drop at input) = rw (syms-drop at xs) t.reached.run in
+    let stuck : plan make_plain (class_of s) t.reached.state (look (drop at input)) (word_at (drop at input)) ≡ Stuck =
+    rw (syms-drop at xs) (stuck_at (class_of s) input st _ t.reached p t.planned e) in
+    record {
+      none = λ u h. unfit_sort s r.0 (unnoted u) input _ r.1 (bare_reads (class_of s) u input h);
+      positive = omega arith;
+      within = omega (arith, length-plain_symbols xs, within);
+      begins = λ j lt. begins_noted (class_of s) _ (begins_before (class_of s) input t.reached.state t.reached.count at j clean run (omega (arith, length-syms xs, within)) lt);
+      least = λ le b. begins_none s input t.reached.state t.reached.count at run stuck (omega (arith, length-syms xs, length-plain_symbols xs, le)) (begins_bare (class_of s) _ b);
+    }
 
 empty_true : (w : List ℕ) → w ≡ [] → is_empty w ≡ true
 empty_true w e = ap is_empty e
@@ -118,7 +144,7 @@ module _ (t : Plain) (k : Cut) (e : k ≡ cut t) where
   unfolding cut
   kept_tree = ap (λ (x : Cut). x.tree) e
 
-  kept_depth : k.depth ≡ min (depth_of t) 4294967295
+  pub kept_depth : k.depth ≡ min (depth_of t) 4294967295
   unfolding cut
   kept_depth = ap (λ (x : Cut). x.depth) e
 

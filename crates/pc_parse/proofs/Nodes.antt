@@ -125,7 +125,7 @@ opened root k w ks x l j n c st fs rest made opening begins all fit okay track e
     let more = fill l w (texts ks) ++ rest in
     let input : symbols k w ks ++ rest ≡ mark x ∷ more = rw made refl in
     let begun : Begins root st c fs (mark x ∷ more) = rw input at begins in
-    let next : step root st (mark x ∷ more) ≡ Go (Reading (frame j w [] n) fs) more = begun ∙ rw opening refl in
+    let next : step root st (mark x ∷ more) ≡ Go (Reading (frame j w [] n) fs) more = begun (rw opening refl) ∙ rw opening refl in
     rw input (onward (one root _ _ _ _ next) (whole root l ks j n k w fs rest all fit okay track end))
 
 -- A node that begins with a kid and then a symbol, where the kid is read first.
@@ -140,7 +140,7 @@ grown root k w i v ns is ts d x l c st m fs rest made grows quiet begins awaits 
     let begun : Begins root st c fs (symbols i v is ++ (mark x ∷ more)) = rw input at begins in
     let next : step root (Holding i (bare i v is) fs) (mark x ∷ more) ≡ Go (Reading (frame k w (bare i v is ∷ []) l) fs) more = rw (awaits, grows.2) refl in
     rw (input, all.1)
-    (onward (all.3 root c st m fs (mark x ∷ more) begun awaits grows.0 grows.1 (quiet_before i is x quiet))
+    (onward (all.3.0 root c st m fs (mark x ∷ more) begun awaits grows.0 grows.1 (quiet_before i is x quiet))
     (onward (one root _ _ _ _ next)
     (arrive root _ _ _ _ _ (ap (λ us. Holding k (bare k w (Cons i v [] is us)) fs) (trees_back ts)) (reads_items root l ts k l k w (bare i v is ∷ []) fs rest all.4 fit okay track end))))
 
@@ -152,14 +152,14 @@ pub predicted : (root : Class) (k : Kind) (w : List ℕ) (ks : Forest) (l n : Li
 predicted root k w ks l n c st fs rest made opening no_word begins all fit okay track end =
     let more = fill l w (texts ks) ++ rest in
     let input : symbols k w ks ++ rest ≡ more = rw made refl in
-    let next : step root st (symbols k w ks ++ rest) ≡ Go (Reading (frame k w [] n) fs) (symbols k w ks ++ rest) = begins ∙ rw (opening, no_word) refl in
+    let next : step root st (symbols k w ks ++ rest) ≡ Go (Reading (frame k w [] n) fs) (symbols k w ks ++ rest) = begins (rw opening refl) ∙ rw (opening, no_word) refl in
     let next2 : step root st more ≡ Go (Reading (frame k w [] n) fs) more = rw input at next in
     rw input (onward (one root _ _ _ _ next2) (whole root l ks k n k w fs rest all fit okay track end))
 
 -- A node of no symbol.
 pub blank : (root : Class) (k : Kind) (c : Class) (st : State Plain) (fs : List (Frame Plain)) (rest : List Sym)
     → start c (look rest) ≡ Blank k → Begins root st c fs rest → Leads root st rest (Holding k (bare k [] Nil) fs) rest
-blank root k c st fs rest opening begins = one root _ _ _ _ (begins ∙ rw opening refl)
+blank root k c st fs rest opening begins = one root _ _ _ _ (begins (rw opening refl) ∙ rw opening refl)
 
 -- A node of one symbol.
 pub leaf : (root : Class) (k : Kind) (x : Lexeme) (w : List ℕ) (c : Class) (st : State Plain) (fs : List (Frame Plain)) (rest : List Sym)
@@ -168,7 +168,7 @@ pub leaf : (root : Class) (k : Kind) (x : Lexeme) (w : List ℕ) (c : Class) (st
 leaf root k x w c st fs rest made opening word begins =
     let input : symbols k w Nil ++ rest ≡ record { lexeme = x; spelling = w } ∷ rest = rw made refl in
     let begun : Begins root st c fs (record { lexeme = x; spelling = w } ∷ rest) = rw input at begins in
-    rw input (one root _ _ _ _ (begun ∙ rw (opening, word) refl))
+    rw input (one root _ _ _ _ (begun (rw opening refl) ∙ rw (opening, word) refl))
 
 -- A node of a kid alone.
 pub wrapped : (root : Class) (k : Kind) (i : Kind) (v : List ℕ) (ns : List (List ℕ)) (is : Forest) (d c : Class) (st : State Plain) (m : List Item) (fs : List (Frame Plain)) (rest : List Sym)
@@ -181,7 +181,7 @@ wrapped root k i v ns is d c st m fs rest made cor tl grows quiet begins awaits 
     let begun : Begins root st c fs (symbols i v is ++ rest) = rw input at begins in
     let next : step root (Holding i (bare i v is) fs) rest ≡ Go (Holding k (bare k [] (Cons i v [] is Nil)) fs) rest = rw (awaits, grows) refl in
     rw (input, all.1)
-    (onward (all.3 root c st m fs rest begun awaits cor tl quiet)
+    (onward (all.3.0 root c st m fs rest begun awaits cor tl quiet)
     (one root _ _ _ _ next))
 
 -- A node that begins with a kid, where the kid is read first and a symbol that isn't taken tells what it begins.
@@ -197,7 +197,7 @@ entered root k i v ns is ts d l c st m fs rest made cor tl grows quiet begins aw
     let begun : Begins root st c fs (symbols i v is ++ more) = rw input at begins in
     let next : step root (Holding i (bare i v is) fs) more ≡ Go (Reading (frame k [] (bare i v is ∷ []) l) fs) more = rw (awaits, grows) refl in
     rw (input, all.1)
-    (onward (all.3 root c st m fs more begun awaits cor tl quiet)
+    (onward (all.3.0 root c st m fs more begun awaits cor tl quiet)
     (onward (one root _ _ _ _ next)
     (arrive root _ _ _ _ _ (ap (λ us. Holding k (bare k [] (Cons i v [] is us)) fs) (trees_back ts)) (reads_items root l ts k l k [] (bare i v is ∷ []) fs rest all.4 fit okay track end))))
 

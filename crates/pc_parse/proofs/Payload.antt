@@ -1,10 +1,12 @@
 -- The machine over what is kept of trees does what the machine over trees does.
-use Rattle.std.proofs.Common.{◌≡◌, ℕ, ◌+◌, ◌≤◌, ◌<◌, max, nat_le, Bool, true, false, ◌&&◌, if◌then◌else◌, List, [], ◌∷◌, ◌++◌, Option, Some, None, map, refl, ap, sym, ◌∙◌, arith}
+use Rattle.std.proofs.Common.{◌≡◌, ℕ, not, ◌+◌, ◌≤◌, ◌<◌, max, nat_le, Bool, true, false, ◌&&◌, if◌then◌else◌, List, [], ◌∷◌, ◌++◌, Option, Some, None, map, refl, ap, sym, ◌∙◌, arith}
 use Rattle.std.specs.Prelude.{sum_by}
 use Rattle.std.specs.Option.{option_map}
-use Rattle.std.proofs.lemmas.List.Sums.{sum_by_push}
-use Rattle.std.proofs.lemmas.Bool.{leb-true, leb-false, le-leb}
+use Rattle.std.proofs.lemmas.List.Sums.{sum_by-cons, sum_by_push}
+use Rattle.std.proofs.lemmas.Bool.{ne_eqb, leb-true, leb-false, le-leb}
 use Rattle.pc_syntax.specs.declared.lexeme.Lexeme.{Lexeme}
+use Rattle.pc_syntax.specs.declared.lexeme.Lexeme.TheVariants as lexeme
+use Rattle.pc_syntax.specs.Spellings.{spelling_of}
 use Rattle.pc_syntax.specs.declared.kind.Kind.{Kind}
 use Rattle.pc_syntax.specs.declared.class.Class.{Class}
 use Rattle.pc_syntax.specs.declared.item.Item.{Item}
@@ -15,11 +17,12 @@ use Rattle.pc_syntax.specs.WellFormed.{size_in, size_of, depth_in, depth_of, siz
 use Rattle.pc_syntax.specs.Parts.{largest, node-is, size_in-forest_of, depth_in-forest_of}
 use Rattle.pc_parse.specs.declared.rows.Cut.{Cut}
 use Rattle.pc_parse.specs.Lookahead.{same_at}
-use Rattle.pc_parse.specs.Tables.{Start, Leaf, Open, Predict, Blank, NoStart, start, Grow, Give, Wrap, Shift, Enter, grow, switch, again}
-use Rattle.pc_parse.specs.Machine.{Frame, frame, State, Opening, Reading, Holding, Plan, Stay, Take, End, Stuck, leaf_word, on_leaf, on_start, on_switch, on_again, at_items, on_give, on_grow, at_kid, awaited_by, plan}
+use Rattle.pc_parse.specs.Tables.{Start, Leaf, Open, Predict, Blank, NoStart, start, Grow, Give, Wrap, Shift, Enter, grow, switch, recast, closes, again}
+use Rattle.pc_parse.specs.Machine.{Frame, frame, State, Opening, Reading, Holding, Plan, Stay, Take, End, Stuck, leaf_word, has_kids, on_leaf, on_start, on_switch, on_recast, on_close, at_close, on_kid, on_again, at_items, on_give, on_grow, at_kid, awaited_by, plan}
 use Rattle.pc_parse.specs.Runs.{make_plain}
 use Rattle.pc_parse.specs.Rows.{Row, cut, row_of, is_within, depth_kept, size_kept, no_kids, made, added, joined}
 use Rattle.pc_parse.specs.Measured as measured
+use Rattle.pc_parse.specs.Rows as rows
 use Rattle.pc_parse.proofs.Entries.{&&_split, &&_join}
 
 -- what is kept of the parts of a state
@@ -67,7 +70,7 @@ within_same : (a b m n : ℕ) → (a ≤ 256 → b ≤ 256) → (b ≤ 256 → a
 within_same a b m n p q r t = λ i. leb_same a 256 b 256 p q i && leb_same m size_limit n size_limit r t i
 
 -- a node is kept as what is made of its kids as they are kept
-made-row_of : (k : Kind) (w : List ℕ) (ts : List Plain) → cut (make_plain k w ts) ≡ made k w (row_of ts)
+pub made-row_of : (k : Kind) (w : List ℕ) (ts : List Plain) → cut (make_plain k w ts) ≡ made k w (row_of ts)
 unfolding row_of cut
 made-row_of k w ts =
     let d = largest (map depth_of ts) in
@@ -149,6 +152,35 @@ switch_kept : (o : Option (Kind × List Item)) (p : Plan Plain) (q : measured.Pl
 switch_kept None p q f fs e = e
 switch_kept (Some r) p q f fs e = refl
 
+recast_kept : (o : Option (Kind × List Item)) (p : Plan Plain) (q : measured.Plan) (f : Frame Plain) (fs : List (Frame Plain)) → plan_kept p ≡ q
+    → plan_kept (on_recast make_plain o p f fs) ≡ measured.on_recast o q (frame_kept f) (map frame_kept fs)
+recast_kept None p q f fs e = e
+recast_kept (Some r) p q f fs e = refl
+
+pub has_kids-row_of : (ts : List Plain) → rows.has_kids (row_of ts) ≡ has_kids ts
+unfolding row_of
+has_kids-row_of [] = refl
+has_kids-row_of (t ∷ ts) =
+    let all : sum_by size_of (t ∷ ts) ≡ size_of t + sum_by size_of ts = sum_by-cons size_of t ts in
+    ap not (ne_eqb (size_kept (sum_by size_of (t ∷ ts))) 0 (λ e. omega (arith, e, all)))
+
+close_kept : (items : List Item) (f : Frame Plain) (fs : List (Frame Plain)) → plan_kept (at_close make_plain items f fs) ≡ measured.at_close items (frame_kept f) (map frame_kept fs)
+close_kept items f [] = refl
+close_kept items f (g ∷ fs) = rw (has_kids-row_of f.kids) (go (has_kids f.kids && closes f.kind items g.kind g.items))
+  where
+    go : (b : Bool) → plan_kept (on_close make_plain b f g fs) ≡ measured.on_close b (frame_kept f) (frame_kept g) (map frame_kept fs)
+    go true =
+        ap (λ r. measured.Stay (measured.Reading (measured.frame g.kind (spelling_of lexeme.Semicolon) r (Literal lexeme.KeyEnd ∷ [])) (map frame_kept fs)))
+        (row_of-push g.kids (make_plain f.kind f.word f.kids) ∙ ap (added (row_of g.kids)) (made-row_of f.kind f.word f.kids))
+    go false = refl
+
+kid_kept : (g : Start) (p : Plan Plain) (q : measured.Plan) (w : List ℕ) (fs : List (Frame Plain)) → plan_kept p ≡ q → plan_kept (on_kid make_plain g p w fs) ≡ measured.on_kid g q w (map frame_kept fs)
+kid_kept (Leaf k) p q w fs e = start_kept (Leaf k) w fs
+kid_kept (Open k v m) p q w fs e = start_kept (Open k v m) w fs
+kid_kept (Predict k m) p q w fs e = start_kept (Predict k m) w fs
+kid_kept (Blank k) p q w fs e = start_kept (Blank k) w fs
+kid_kept NoStart p q w fs e = e
+
 again_kept : (o : Option Class) (x : Option Lexeme) (w : List ℕ) (f : Frame Plain) (fs : List (Frame Plain))
     → plan_kept (on_again make_plain o x w f fs) ≡ measured.on_again o x w (frame_kept f) (map frame_kept fs)
 again_kept None x w f fs = ap (λ c. measured.Stay (measured.Holding f.kind c (map frame_kept fs))) (made-row_of f.kind f.word f.kids)
@@ -159,12 +191,13 @@ items_kept : (items : List Item) (f : Frame Plain) (fs : List (Frame Plain)) (x 
 items_kept [] f fs x w = switch_kept (switch f.kind [] x) _ _ f fs (again_kept (again f.kind x) x w f fs)
 items_kept (Literal y ∷ m) f fs x w = go (same_at y x)
   where
-    go : (b : Bool) → plan_kept (if b then Take (Reading (frame f.kind f.word f.kids m) fs) else on_switch make_plain (switch f.kind (Literal y ∷ m) x) Stuck f fs)
-        ≡ (if b then measured.Take (measured.Reading (measured.frame f.kind f.word (row_of f.kids) m) (map frame_kept fs)) else measured.on_switch (switch f.kind (Literal y ∷ m) x) measured.Stuck (frame_kept f) (map frame_kept fs))
+    go : (b : Bool)
+        → plan_kept (if b then Take (Reading (frame f.kind f.word f.kids m) fs) else on_switch make_plain (switch f.kind (Literal y ∷ m) x) (on_recast make_plain (recast f.kind (Literal y ∷ m) x) Stuck f fs) f fs)
+        ≡ (if b then measured.Take (measured.Reading (measured.frame f.kind f.word (row_of f.kids) m) (map frame_kept fs)) else measured.on_switch (switch f.kind (Literal y ∷ m) x) (measured.on_recast (recast f.kind (Literal y ∷ m) x) measured.Stuck (frame_kept f) (map frame_kept fs)) (frame_kept f) (map frame_kept fs))
     go true = refl
-    go false = switch_kept (switch f.kind (Literal y ∷ m) x) Stuck measured.Stuck f fs refl
+    go false = switch_kept (switch f.kind (Literal y ∷ m) x) _ _ f fs (recast_kept (recast f.kind (Literal y ∷ m) x) Stuck measured.Stuck f fs refl)
 items_kept (Word y ∷ m) f fs x w = refl
-items_kept (Kid c ∷ m) f fs x w = start_kept (start c x) w (f ∷ fs)
+items_kept (Kid c ∷ m) f fs x w = kid_kept (start c x) _ _ w (f ∷ fs) (recast_kept (recast f.kind (Kid c ∷ m) x) _ _ f fs (close_kept (Kid c ∷ m) f fs))
 
 give_kept : (b : Bool) (a : Plain) (m : List Item) (fs : List (Frame Plain)) (x : Option Lexeme)
     → plan_kept (on_give make_plain b a m fs x) ≡ measured.on_give b (cut a) m (map frame_kept fs) x

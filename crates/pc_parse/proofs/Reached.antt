@@ -5,26 +5,29 @@ use Rattle.std.specs.Option.{option_map}
 use Rattle.std.proofs.lemmas.Bool.{leb-true}
 use Rattle.pc_syntax.specs.declared.kind.Kind.{Kind}
 use Rattle.pc_syntax.specs.declared.class.Class.{Class}
-use Rattle.pc_syntax.specs.Plain.{Forest, Nil, Cons, Plain, node, count, kinds}
+use Rattle.pc_syntax.specs.declared.item.Item.{Item}
+use Rattle.pc_syntax.specs.Plain.{Forest, Nil, Cons, Plain, node, count}
 use Rattle.pc_syntax.specs.Symbols.{Sym}
-use Rattle.pc_syntax.specs.Layout.{layout}
-use Rattle.pc_syntax.specs.WellFormed.{WellFormed, IsProper, depth_of, size_of, size_limit, fits_some, takes_notes}
+use Rattle.pc_syntax.specs.WellFormed.{WellFormed, IsProper, depth_of, size_of, size_limit, takes_notes}
 use Rattle.pc_parse.specs.declared.rows.Cut.{Cut}
-use Rattle.pc_parse.specs.Reading.{readable, lay, Good, IsGood}
+use Rattle.pc_parse.specs.Reading.{Good, IsGood}
 use Rattle.pc_parse.specs.Lookahead.{look, word_at, after}
 use Rattle.pc_parse.specs.Machine.{Frame, frame, State, Opening, Reading, Holding, Plan, Stay, Take, End, Stuck, plan}
 use Rattle.pc_parse.specs.Runs.{make_plain, Step, Go, Accept, Refuse, apply, step, continue, exec}
 use Rattle.pc_parse.specs.Proper.{Proper}
-use Rattle.pc_parse.specs.Rows.{Row, cut, is_within, made}
+use Rattle.pc_parse.specs.Rows.{Row, row_of, cut, is_within, made}
 use Rattle.pc_parse.specs.Measured as measured
+use Rattle.pc_parse.specs.Rows as rows
+use Rattle.pc_parse.specs.Tables.{closes}
 use Rattle.pc_parse.specs.Energy.{energy, below_energy}
 use Rattle.pc_parse.proofs.Entries.{&&_split}
-use Rattle.pc_parse.proofs.Payload.{frame_kept, state_kept, plan_kept, plan_natural}
+use Rattle.pc_parse.proofs.Payload.{frame_kept, state_kept, plan_kept, made-row_of, has_kids-row_of, plan_natural}
 use Rattle.pc_parse.proofs.Energy.{is_some, stay_falls, take_has, take_falls_by}
 use Rattle.pc_parse.proofs.SoundStates.{StepOk}
+use Rattle.pc_parse.proofs.SoundCloses.{closed_good}
 use Rattle.pc_parse.proofs.Sound.{exec_ok}
 
-exec_then : (c : Class) (n : ℕ) (a : State Plain) (xs : List Sym) (b : State Plain) (ys : List Sym) → exec c n a xs ≡ Go b ys → exec c (suc n) a xs ≡ step c b ys
+pub exec_then : (c : Class) (n : ℕ) (a : State Plain) (xs : List Sym) (b : State Plain) (ys : List Sym) → exec c n a xs ≡ Go b ys → exec c (suc n) a xs ≡ step c b ys
 exec_then c zero a xs b ys e = ends (step c a xs) ∙ go e
   where
     ends : (r : Step) → continue r (exec c zero) ≡ r
@@ -144,24 +147,19 @@ module _ (c : Class) (input : List Sym) (s : measured.State) (ys : List Sym) (r 
       (q.0, suc r.count, exec_then c r.count Opening input r.state ys r.run ∙ i, q.2)
 
   -- a step that refuses the symbol
+  pub stuck_at : p ≡ measured.Stuck → plan make_plain c r.state (look ys) (word_at ys) ≡ Stuck
+  stuck_at h = stuck_of (plan make_plain c r.state (look ys) (word_at ys)) (planned c input s ys p r e ∙ h)
+
   pub refused_at : p ≡ measured.Stuck → (n : ℕ) × (exec c n Opening input ≡ Refuse ys)
   refused_at h =
-      let q = stuck_of (plan make_plain c r.state (look ys) (word_at ys)) (planned c input s ys p r e ∙ h) in
-      let i : step c r.state ys ≡ Refuse ys = ap (λ o. apply o ys) q in
+      let i : step c r.state ys ≡ Refuse ys = ap (λ o. apply o ys) (stuck_at h) in
       (suc r.count, exec_then c r.count Opening input r.state ys r.run ∙ i)
 
--- what can be read so far is well formed
-lay_fits : (k : Kind) (w : List ℕ) (n : ℕ) (ks : List Kind) → fits_some (lay k w n) ks ≡ true → fits_some (layout k w n) ks ≡ true
-lay_fits k w n ks h = go (readable k n) h
-  where
-    go : (b : Bool) → fits_some (if b then layout k w n else None) ks ≡ true → fits_some (layout k w n) ks ≡ true
-    go true h = h
-    go false h = cc
-
+-- what is read is well formed
 pub good_formed : (ts : Forest) → Good ts → WellFormed ts
 good_formed Nil h = tt
 good_formed (Cons k w ns ks ts) h =
-    (lay_fits k w (count ks) (kinds ks) h.0, ap (takes_notes k (count ks)) h.2, h.1, good_formed ks h.3, good_formed ts h.4)
+    (h.0, ap (takes_notes k (count ks)) h.2, h.1, good_formed ks h.3, good_formed ts h.4)
 
 -- a node that is held is good
 held_good : (c : Class) (input : List Sym) (k : Kind) (t : Plain) (fs : List (Frame Plain)) (n : ℕ) (ys : List Sym) → Proper input → exec c n Opening input ≡ Go (Holding k t fs) ys → IsGood t
@@ -184,17 +182,44 @@ made_proper k w ts t good e = go (is_within (depth_of t) (size_of t)) refl
         rw same proper
     go false h = let p : Some (node k w [] ts) ≡ None = e ∙ ap (λ b. if b then Some t else None) h in cc
 
+by_trees : (k : Kind) (w : List ℕ) (o : Option (List Plain)) (t : Plain) → IsGood t → option_map (node k w []) o ≡ (cut t).tree → IfSome o (λ ts. IsProper (node k w [] ts))
+by_trees k w None t good e = tt
+by_trees k w (Some ts) t good e = made_proper k w ts t good e
+
 pub held_proper : (c : Class) (input : List Sym) (k : Kind) (w : List ℕ) (row : Row) (fs : List measured.Frame) (ys : List Sym)
     → Proper input → Reached c input (measured.Holding k (made k w row) fs) ys → IfSome row.trees (λ ts. IsProper (node k w [] ts))
 held_proper c input k w row fs ys clean r = by_state r.state r.run r.seen
   where
-    by_trees : (o : Option (List Plain)) (t : Plain) → IsGood t → option_map (node k w []) o ≡ (cut t).tree → IfSome o (λ ts. IsProper (node k w [] ts))
-    by_trees None t good e = tt
-    by_trees (Some ts) t good e = made_proper k w ts t good e
-
     by_state : (st : State Plain) → exec c r.count Opening input ≡ Go st ys → measured.Holding k (made k w row) fs ≡ state_kept st → IfSome row.trees (λ ts. IsProper (node k w [] ts))
     by_state Opening run e = cc
     by_state (Reading f gs) run e = cc
     by_state (Holding j t gs) run e =
         let same : made k w row ≡ cut t = cc in
-        by_trees row.trees t (held_good c input j t gs r.count ys clean run) (ap (λ (x : Cut). x.tree) same)
+        by_trees k w row.trees t (held_good c input j t gs r.count ys clean run) (ap (λ (x : Cut). x.tree) same)
+
+-- a list that may end in front of its last separator is good
+closing_good : (c : Class) (input : List Sym) (f : Frame Plain) (fs : List (Frame Plain)) (n : ℕ) (ys : List Sym) (k : Kind) (m : List Item)
+    → Proper input → exec c n Opening input ≡ Go (Reading f fs) ys → closes f.kind f.items k m ≡ true → rows.has_kids (row_of f.kids) ≡ true → IsGood (make_plain f.kind f.word f.kids)
+closing_good c input f fs n ys k m clean e ends some =
+    let h : StepOk c input (exec c n Opening input) = exec_ok n c Opening input [] input refl refl clean in
+    let g : StepOk c input (Go (Reading f fs) ys) = rw e at h in
+    closed_good f.kind f.items k m f.word f.kids g.3.pre g.3.text ends (sym (has_kids-row_of f.kids) ∙ some) g.3.front
+
+abbrev frame_or : measured.Frame → measured.State → measured.Frame
+frame_or d measured.Opening = d
+frame_or d (measured.Reading f fs) = f
+frame_or d (measured.Holding k a fs) = d
+
+pub closing_proper : (c : Class) (input : List Sym) (f : measured.Frame) (fs : List measured.Frame) (ys : List Sym) (k : Kind) (m : List Item)
+    → Proper input → Reached c input (measured.Reading f fs) ys → closes f.kind f.items k m ≡ true → rows.has_kids f.kids ≡ true → IfSome f.kids.trees (λ ts. IsProper (node f.kind f.word [] ts))
+closing_proper c input f fs ys k m clean r ends some = by_state r.state r.run r.seen
+  where
+    by_state : (st : State Plain) → exec c r.count Opening input ≡ Go st ys → measured.Reading f fs ≡ state_kept st → IfSome f.kids.trees (λ ts. IsProper (node f.kind f.word [] ts))
+    by_state Opening run e = cc
+    by_state (Reading g gs) run e =
+        let same : f ≡ frame_kept g = ap (frame_or f) e in
+        let ends_too : closes g.kind g.items k m ≡ true = ap (λ (h : measured.Frame). closes h.kind h.items k m) (sym same) ∙ ends in
+        let some_too : rows.has_kids (row_of g.kids) ≡ true = ap (λ (h : measured.Frame). rows.has_kids h.kids) (sym same) ∙ some in
+        let good = closing_good c input g gs r.count ys k m clean run ends_too some_too in
+        rw same (by_trees g.kind g.word (row_of g.kids).trees (make_plain g.kind g.word g.kids) good (sym (ap (λ (x : Cut). x.tree) (made-row_of g.kind g.word g.kids))))
+    by_state (Holding j t gs) run e = cc

@@ -1,6 +1,7 @@
 -- Each step keeps a state sound; so what is accepted is a tree of the class that has the symbols.
-use Rattle.std.proofs.Common.{◌≡◌, ℕ, zero, suc, Bool, true, false, if◌then◌else◌, List, [], ◌∷◌, ◌++◌, Option, Some, None, refl, ap, sym, ◌∙◌, subst, append_assoc, append-nil}
+use Rattle.std.proofs.Common.{◌≡◌, ℕ, zero, suc, Bool, true, false, ◌&&◌, if◌then◌else◌, List, [], ◌∷◌, ◌++◌, Option, Some, None, refl, ap, sym, ◌∙◌, subst, append_assoc, append-nil}
 use Rattle.pc_syntax.specs.declared.lexeme.Lexeme.{Lexeme}
+use Rattle.pc_syntax.specs.declared.lexeme.Lexeme.TheVariants as lexeme
 use Rattle.pc_syntax.specs.declared.kind.Kind.{Kind}
 use Rattle.pc_syntax.specs.declared.class.Class.{Class}
 use Rattle.pc_syntax.specs.declared.item.Item.{Item}
@@ -8,18 +9,19 @@ use Rattle.pc_syntax.specs.declared.item.Item.TheVariants.{Literal, Word, Kid}
 use Rattle.pc_syntax.specs.Plain.{Plain, forest_of}
 use Rattle.pc_syntax.specs.Classes.{has}
 use Rattle.pc_syntax.specs.Symbols.{Sym, symbols_of}
-use Rattle.pc_parse.specs.Reading.{Reads}
+use Rattle.pc_parse.specs.Reading.{ReadsBare}
 use Rattle.pc_parse.specs.Lookahead.{same_at, look, word_at, after}
-use Rattle.pc_parse.specs.Tables.{start, grow, switch, turned_word, again}
-use Rattle.pc_parse.specs.Machine.{Frame, frame, State, Opening, Reading, Holding, Plan, Take, Stuck, on_switch, on_again, at_items, on_give, on_grow, at_kid, awaited, awaited_by}
+use Rattle.pc_parse.specs.Tables.{Start, Leaf, Open, Predict, Blank, NoStart, start, grow, switch, recast, closes, turned_word, again}
+use Rattle.pc_parse.specs.Machine.{Frame, frame, State, Opening, Reading, Holding, Plan, Take, Stuck, has_kids, on_start, on_switch, on_recast, on_close, at_close, on_kid, on_again, at_items, on_give, on_grow, at_kid, awaited, awaited_by}
 use Rattle.pc_parse.specs.Runs.{make_plain, Step, Go, Accept, Refuse, apply, step, continue, exec}
 use Rattle.pc_parse.specs.Proper.{Proper}
 use Rattle.pc_parse.proofs.Entries.{&&_split}
 use Rattle.pc_parse.proofs.Items.{same_eq}
 use Rattle.pc_parse.proofs.SoundTables.{corner, is_mark, starts_ok, grows_ok}
+use Rattle.pc_parse.proofs.SoundCloses.{closed_ok}
 use Rattle.pc_parse.proofs.SoundFrames.{some_eq, mark, FrontOk, forest_of-push, last_open-snoc, give_front, literal_front, done_front}
 use Rattle.pc_parse.proofs.SoundStates.{BelowOk, ReadingOk, HoldingOk, Sound, StepOk, marked_symbol, one_more, Below, on_start_ok, on_grow_ok}
-use Rattle.pc_parse.proofs.SoundSwitches.{none-some, switched_ok, switch_none, again_ok, quiet_of, no_kid_calm}
+use Rattle.pc_parse.proofs.SoundSwitches.{none-some, switched_ok, recast_ok, switch_none, again_ok, quiet_of, no_kid_calm}
 
 -- the class that is awaited above these frames
 awaits : (root : Class) (k : Kind) (fs : List (Frame Plain)) (before : List Sym) → BelowOk root k fs before
@@ -29,7 +31,7 @@ awaits root k (f ∷ fs) before b =
     (b.4.class, b.4.more, b.4.awaited_is, b.4.fits_corner, λ j h. (b.0, b.1, b.2, b.3, record { class = b.4.class; more = b.4.more; awaited_is = b.4.awaited_is; fits_corner = h }, b.5, b.6))
 
 -- the kid that items await is their first
-awaited_eq : (items : List Item) (c : Class) (m : List Item) → awaited items ≡ Some (c, m) → items ≡ Kid c ∷ m
+pub awaited_eq : (items : List Item) (c : Class) (m : List Item) → awaited items ≡ Some (c, m) → items ≡ Kid c ∷ m
 awaited_eq [] c m h = cc
 awaited_eq (Literal x ∷ n) c m h = cc
 awaited_eq (Word x ∷ n) c m h = cc
@@ -110,6 +112,56 @@ switch_go : (o : Option (Kind × List Item)) (other : Plan Plain) (f : Frame Pla
 switch_go None other f fs root whole ys taken kept = kept refl
 switch_go (Some p) other f fs root whole ys taken kept = taken p.0 p.1 refl
 
+-- a frame goes on as another, and leaves the symbol
+recast_step : (root : Class) (o : Option (Kind × List Item)) (other : Plan Plain) (f : Frame Plain) (fs : List (Frame Plain)) (items : List Item) (whole used ys : List Sym)
+    → ReadingOk root f fs used (look ys) → f.items ≡ items → recast f.kind items (look ys) ≡ o → used ++ ys ≡ whole → Proper ys → StepOk root whole (apply other ys)
+    → StepOk root whole (apply (on_recast make_plain o other f fs) ys)
+recast_step root None other f fs items whole used ys r e h split clean kept = kept
+recast_step root (Some p) other f fs items whole used ys r e h split clean kept =
+    let front : FrontOk f.kind f.word (forest_of f.kids) items r.pre r.text = rw e at r.front in
+    let s = recast_ok f.kind f.word (forest_of f.kids) items (look ys) p.0 p.1 r.pre r.text h front in (
+      used,
+      split,
+      clean,
+      record { pre = r.pre; before = r.before; text = r.text; front = s.front; below = below_as root f.kind p.0 fs r.before s.corners r.below; used_is = r.used_is; calm = r.calm },
+    )
+
+-- a list that ends in front of its last separator is given to the frame below
+close_step : (root : Class) (f : Frame Plain) (fs : List (Frame Plain)) (items : List Item) (whole used ys : List Sym)
+    → ReadingOk root f fs used (look ys) → f.items ≡ items → used ++ ys ≡ whole → Proper ys → StepOk root whole (apply (at_close make_plain items f fs) ys)
+close_step root f [] items whole used ys r e split clean = tt
+close_step root f (g ∷ fs) items whole used ys r e split clean = go (has_kids f.kids && closes f.kind items g.kind g.items) refl
+  where
+    go : (b : Bool) → has_kids f.kids && closes f.kind items g.kind g.items ≡ b → StepOk root whole (apply (on_close make_plain b f g fs) ys)
+    go false h = tt
+    go true h =
+        let p = &&_split (has_kids f.kids) (closes f.kind items g.kind g.items) h in
+        let front : FrontOk f.kind f.word (forest_of f.kids) items r.pre r.text = rw e at r.front in
+        let b = r.below in
+        let s = closed_ok f.kind items g.kind g.items f.word f.kids g.word g.kids r.pre b.0 b.2 r.text p.1 p.0 front b.3 in (
+          used,
+          split,
+          clean,
+          record {
+            pre = s.pre ++ Literal lexeme.Semicolon ∷ [];
+            before = b.1;
+            text = b.2 ++ r.text;
+            front = s.front;
+            below = b.5;
+            used_is = rw (r.used_is, b.6) (append_assoc b.1 b.2 r.text);
+            calm = no_kid_calm s.pre lexeme.Semicolon (forest_of (g.kids ++ make_plain f.kind f.word f.kids ∷ [])) (look ys);
+          },
+        )
+
+-- an awaited kid begins, where it can
+kid_step : (root : Class) (g : Start) (other : Plan Plain) (fs : List (Frame Plain)) (whole ys : List Sym)
+    → StepOk root whole (apply (on_start make_plain g (word_at ys) fs) ys) → StepOk root whole (apply other ys) → StepOk root whole (apply (on_kid make_plain g other (word_at ys) fs) ys)
+kid_step root (Leaf k) other fs whole ys h i = h
+kid_step root (Open k v m) other fs whole ys h i = h
+kid_step root (Predict k m) other fs whole ys h i = h
+kid_step root (Blank k) other fs whole ys h i = h
+kid_step root NoStart other fs whole ys h i = i
+
 -- a frame with no item left ends, or begins a further element
 again_step : (root : Class) (o : Option Class) (f : Frame Plain) (fs : List (Frame Plain)) (whole used ys : List Sym)
     → ReadingOk root f fs used (look ys) → f.items ≡ [] → again f.kind (look ys) ≡ o → switch f.kind [] (look ys) ≡ None → used ++ ys ≡ whole → Proper ys
@@ -144,7 +196,8 @@ items_step root [] f fs whole used ys r e split clean =
 items_step root (Literal x ∷ m) f fs whole used ys r e split clean = go (same_at x (look ys)) refl
   where
     go : (b : Bool) → same_at x (look ys) ≡ b
-        → StepOk root whole (apply (if b then Take (Reading (frame f.kind f.word f.kids m) fs) else on_switch make_plain (switch f.kind (Literal x ∷ m) (look ys)) Stuck f fs) ys)
+        → StepOk root whole
+        (apply (if b then Take (Reading (frame f.kind f.word f.kids m) fs) else on_switch make_plain (switch f.kind (Literal x ∷ m) (look ys)) (on_recast make_plain (recast f.kind (Literal x ∷ m) (look ys)) Stuck f fs) f fs) ys)
     go true h = literal_step ys r h split clean
       where
         literal_step : (zs : List Sym) → ReadingOk root f fs used (look zs) → same_at x (look zs) ≡ true → used ++ zs ≡ whole → Proper zs → StepOk root whole (Go (Reading (frame f.kind f.word f.kids m) fs) (after zs))
@@ -168,12 +221,16 @@ items_step root (Literal x ∷ m) f fs whole used ys r e split clean = go (same_
                 calm = no_kid_calm r.pre x (forest_of f.kids) (look zs);
               },
             )
-    go false h = switch_go (switch f.kind (Literal x ∷ m) (look ys)) Stuck f fs root whole ys (switching_ok root f fs (Literal x ∷ m) whole used ys r e split clean) (λ none. tt)
+    go false h =
+        switch_go (switch f.kind (Literal x ∷ m) (look ys)) (on_recast make_plain (recast f.kind (Literal x ∷ m) (look ys)) Stuck f fs) f fs root whole ys (switching_ok root f fs (Literal x ∷ m) whole used ys r e split clean)
+        (λ none. recast_step root (recast f.kind (Literal x ∷ m) (look ys)) Stuck f fs (Literal x ∷ m) whole used ys r e refl split clean tt)
 items_step root (Word x ∷ m) f fs whole used ys r e split clean = tt
 items_step root (Kid c ∷ m) f fs whole used ys r e split clean =
-    on_start_ok root c (f ∷ fs) (start c (look ys)) whole used ys
+    kid_step root (start c (look ys)) (on_recast make_plain (recast f.kind (Kid c ∷ m) (look ys)) (at_close make_plain (Kid c ∷ m) f fs) f fs) (f ∷ fs) whole ys
+    (on_start_ok root c (f ∷ fs) (start c (look ys)) whole used ys
     (λ k h. (r.pre, r.before, r.text, r.front, record { class = c; more = m; awaited_is = ap awaited e; fits_corner = h }, r.below, r.used_is))
-    split clean (starts_ok c (look ys))
+    split clean (starts_ok c (look ys)))
+    (recast_step root (recast f.kind (Kid c ∷ m) (look ys)) (at_close make_plain (Kid c ∷ m) f fs) f fs (Kid c ∷ m) whole used ys r e refl split clean (close_step root f fs (Kid c ∷ m) whole used ys r e split clean))
 
 pub step_ok : (root : Class) (st : State Plain) (whole used ys : List Sym) → Sound root st used (look ys) → used ++ ys ≡ whole → Proper ys → StepOk root whole (step root st ys)
 step_ok root Opening whole used ys h split clean = on_start_ok root root [] (start root (look ys)) whole used ys (λ k i. (i, h)) split clean (starts_ok root (look ys))
@@ -201,7 +258,7 @@ exec_ok (suc n) root st whole used ys h split clean =
     continued root whole (step root st ys) (exec root n) (step_ok root st whole used ys h split clean) (λ st2 used2 zs i e d. exec_ok n root st2 whole used2 zs i e d)
 
 -- what is accepted is a tree of the class that has these symbols
-pub sound : (c : Class) (ys : List Sym) (n : ℕ) (t : Plain) → Proper ys → exec c n Opening ys ≡ Accept t → Reads c t ys
+pub sound : (c : Class) (ys : List Sym) (n : ℕ) (t : Plain) → Proper ys → exec c n Opening ys ≡ Accept t → ReadsBare c t ys
 sound c ys n t clean e =
     let h : StepOk c ys (exec c n Opening ys) = exec_ok n c Opening ys [] ys refl refl clean in
     rw e at h

@@ -1,5 +1,5 @@
 -- The front of a node: what is read of it, and its next item.
-use Rattle.std.proofs.Common.{◌≡◌, ℕ, suc, ◌+◌, Bool, true, false, ◌&&◌, not, if◌then◌else◌, List, [], ◌∷◌, ◌++◌, Some, None, refl, ap, sym, ◌∙◌, append_assoc, append-nil, add-zero, arith}
+use Rattle.std.proofs.Common.{◌≡◌, ℕ, suc, ◌+◌, Bool, true, false, ◌&&◌, not, List, [], ◌∷◌, ◌++◌, Some, refl, ap, sym, ◌∙◌, append_assoc, append-nil, add-zero, arith}
 use Rattle.pc_syntax.specs.declared.lexeme.Lexeme.{Lexeme}
 use Rattle.pc_syntax.specs.declared.kind.Kind.{Kind}
 use Rattle.pc_syntax.specs.declared.kind.Kind.TheVariants as kind
@@ -11,11 +11,12 @@ use Rattle.pc_syntax.specs.Layout.{layout}
 use Rattle.pc_syntax.specs.Classes.{has}
 use Rattle.pc_syntax.specs.Symbols.{Sym, fill, texts, symbols, symbols_of}
 use Rattle.pc_syntax.specs.WellFormed.{fits, opens, last_open, breaks_else_rule}
-use Rattle.pc_parse.specs.Reading.{readable, lay, Good, IsGood}
+use Rattle.pc_parse.specs.Reading.{Good, IsGood}
 use Rattle.pc_parse.specs.Machine.{Frame}
 use Rattle.pc_parse.specs.Runs.{make_plain}
+use Rattle.pc_parse.specs.Partial.{kids_in}
 use Rattle.pc_parse.proofs.Entries.{&&_split}
-use Rattle.pc_parse.proofs.SoundTables.{is_mark, marks, is_empty, kids_in, has_else}
+use Rattle.pc_parse.proofs.SoundTables.{is_mark, marks, is_empty, has_else}
 
 pub true-false : {A : Type 0} → true ≡ false → A
 true-false h = cc
@@ -25,14 +26,6 @@ some_eq x y h = cc
 
 abbrev pub mark : Lexeme → Sym
 mark x = record { lexeme = x; spelling = [] }
-
--- what can be read is as the grammar says
-pub lay_layout : (k : Kind) (w : List ℕ) (n : ℕ) (m : List Item) → lay k w n ≡ Some m → layout k w n ≡ Some m
-lay_layout k w n m h = go (readable k n) h
-  where
-    go : (b : Bool) → (if b then layout k w n else None) ≡ Some m → layout k w n ≡ Some m
-    go true e = e
-    go false e = cc
 
 -- an ifelse has its first two kids
 abbrev pub past_second : Kind → Forest → Bool
@@ -48,7 +41,7 @@ pub record NodeOk (k : Kind) (t : Plain) : Type 0 where
 
 -- What is read of a node: pre is that part of its items, and text are its symbols.
 pub record FrontOk (k : Kind) (w : List ℕ) (ks : Forest) (items pre : List Item) (text : List Sym) : Type 0 where
-  pub laid : lay k w (count ks + kids_in items) ≡ Some (pre ++ items)
+  pub laid : layout k w (count ks + kids_in items) ≡ Some (pre ++ items)
   pub fit : fits pre (kinds ks) ≡ true
   pub good : Good ks
   pub text_is : text ≡ fill pre w (texts ks)
@@ -122,7 +115,7 @@ fits-more (Word x ∷ pre) l ks js h e = fits-more pre l ks js h e
 fits-more (Kid c ∷ pre) l [] js h e = cc
 fits-more (Kid c ∷ pre) l (k ∷ ks) js h e = let p : (has c k ≡ true) × (fits pre ks ≡ true) = &&_split _ _ h in rw (p.0, fits-more pre l ks js p.1 e) refl
 
-fill-more : (pre l : List Item) (w : List ℕ) (ts : Forest) (us : List (List Sym)) → fits pre (kinds ts) ≡ true
+pub fill-more : (pre l : List Item) (w : List ℕ) (ts : Forest) (us : List (List Sym)) → fits pre (kinds ts) ≡ true
     → fill (pre ++ l) w (texts ts ++ us) ≡ fill pre w (texts ts) ++ fill l w us
 fill-more [] l w Nil us h = refl
 fill-more [] l w (Cons k v ns ks ts) us h = cc
@@ -151,7 +144,7 @@ give_front k w ks c m pre text t ok member good = record {
     number : count (snoc ks t) + kids_in m ≡ count ks + suc (kids_in m)
     number = omega (arith, count-snoc ks t)
 
-    laid_is : lay k w (count (snoc ks t) + kids_in m) ≡ Some ((pre ++ Kid c ∷ []) ++ m)
+    laid_is : layout k w (count (snoc ks t) + kids_in m) ≡ Some ((pre ++ Kid c ∷ []) ++ m)
     laid_is = rw (number, append_assoc pre (Kid c ∷ []) m) ok.laid
 
     text_eq : text ++ symbols_of t ≡ fill (pre ++ Kid c ∷ []) w (texts (snoc ks t))
@@ -165,7 +158,7 @@ filled pre x w ks text fit text_is =
 
 -- a front takes a symbol, and may be that of another kind from there
 pub mark_front : (j : Kind) (w : List ℕ) (ks : Forest) (items : List Item) (x : Lexeme) (k : Kind) (m pre : List Item) (text : List Sym)
-    → FrontOk j w ks items pre text → lay k w (count ks + kids_in m) ≡ Some ((pre ++ Literal x ∷ []) ++ m) → breaks_else_rule k ks ≡ false → past_second k ks ≡ true → marks m ≡ true
+    → FrontOk j w ks items pre text → layout k w (count ks + kids_in m) ≡ Some ((pre ++ Literal x ∷ []) ++ m) → breaks_else_rule k ks ≡ false → past_second k ks ≡ true → marks m ≡ true
     → FrontOk k w ks m (pre ++ Literal x ∷ []) (text ++ mark x ∷ [])
 mark_front j w ks items x k m pre text ok laid rule past marked = record {
   laid = laid;
@@ -192,10 +185,7 @@ literal_front k w ks x m pre text ok =
 -- a front with no item left is a node
 pub done_front : (k : Kind) (w : List ℕ) (ks : List Plain) (pre : List Item) (text : List Sym)
     → FrontOk k w (forest_of ks) [] pre text → NodeOk k (make_plain k w ks) × (symbols_of (make_plain k w ks) ≡ text)
-done_front k w ks pre text ok = (record { kind_is = refl; good = (rw laid ok.fit, ok.rule, refl, ok.good, tt) }, rw grammar (sym ok.text_is))
+done_front k w ks pre text ok = (record { kind_is = refl; good = (rw laid ok.fit, ok.rule, refl, ok.good, tt) }, rw laid (sym ok.text_is))
   where
-    laid : lay k w (count (forest_of ks)) ≡ Some pre
+    laid : layout k w (count (forest_of ks)) ≡ Some pre
     laid = rw (add-zero (count (forest_of ks)), append-nil pre) at ok.laid
-
-    grammar : layout k w (count (forest_of ks)) ≡ Some pre
-    grammar = lay_layout k w (count (forest_of ks)) pre laid

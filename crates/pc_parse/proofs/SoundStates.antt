@@ -13,17 +13,18 @@ use Rattle.pc_syntax.specs.Classes.{has}
 use Rattle.pc_syntax.specs.Symbols.{Sym, symbols_of}
 use Rattle.pc_syntax.specs.WellFormed.{opens}
 use Rattle.pc_syntax.specs.Words.{is_identifier, is_forward, is_numeral, is_text}
-use Rattle.pc_parse.specs.Reading.{lay, Reads}
+use Rattle.pc_parse.specs.Reading.{ReadsBare}
 use Rattle.pc_parse.specs.Lookahead.{look, word_at}
 use Rattle.pc_parse.specs.Tables.{Start, Leaf, Open, Predict, Blank, NoStart, Grow, Give, Wrap, Shift, Enter}
 use Rattle.pc_parse.specs.Machine.{Frame, State, Opening, Reading, Holding, leaf_word, on_leaf, on_start, on_give, on_grow, awaited}
 use Rattle.pc_parse.specs.Runs.{make_plain, Step, Go, Accept, Refuse, apply}
 use Rattle.pc_parse.specs.Proper
 use Rattle.pc_parse.specs.Proper.{proper, Proper}
+use Rattle.pc_parse.specs.Partial.{kids_in}
 use Rattle.pc_parse.proofs.Entries.{&&_split}
 use Rattle.pc_parse.proofs.Items.{same_eq}
-use Rattle.pc_parse.proofs.SoundTables.{corner, is_mark, is_word, is_empty, kids_in, start_ok, grow_ok, lays_eq, first_kid_eq}
-use Rattle.pc_parse.proofs.SoundFrames.{true-false, mark, lay_layout, NodeOk, FrameOk, rule_nil, rule_one, past_never}
+use Rattle.pc_parse.proofs.SoundTables.{corner, is_mark, is_word, is_empty, start_ok, grow_ok, lays_eq, first_kid_eq}
+use Rattle.pc_parse.proofs.SoundFrames.{true-false, mark, NodeOk, FrameOk, rule_nil, rule_one, past_never}
 use Rattle.pc_parse.proofs.SoundSwitches.{Calm, Quiet, opens_less}
 
 -- The kid that is awaited can begin with a node of kind k.
@@ -63,7 +64,7 @@ Sound root (Holding k t fs) used x = HoldingOk root k t fs used x
 -- What a step leads to, where the whole input is given.
 abbrev pub StepOk : Class → List Sym → Step → Type 0
 StepOk root whole (Go st ys) = (used : List Sym) × (used ++ ys ≡ whole) × Proper ys × Sound root st used (look ys)
-StepOk root whole (Accept t) = Reads root t whole
+StepOk root whole (Accept t) = ReadsBare root t whole
 StepOk root whole (Refuse ys) = Unit {0}
 
 one_add : (n : ℕ) → 1 + n ≡ suc n
@@ -187,8 +188,8 @@ on_start_ok root c fs (Predict k m) whole used ys below split clean ok =
 on_start_ok root c fs (Blank k) whole used ys below split clean ok =
     let p = &&_split _ _ ok in
     let q = &&_split _ _ p.0 in
-    let laid : lay k [] 0 ≡ Some [] = lays_eq _ _ p.1 in
-    let grammar : layout k [] 0 ≡ Some [] = lay_layout k [] 0 [] laid in (
+    let laid : layout k [] 0 ≡ Some [] = lays_eq _ _ p.1 in
+    let grammar : layout k [] 0 ≡ Some [] = laid in (
       used,
       split,
       clean,
@@ -212,9 +213,9 @@ on_grow_ok root c k t fs m Give b whole used before ys node quiet below used_is 
 on_grow_ok root c k t fs m (Wrap j) b whole used before ys node quiet below used_is given split clean ok =
     let p = &&_split _ _ ok in
     let q = &&_split _ _ p.0 in
-    let d = first_kid_eq (lay j [] 1) k [] p.1 in
-    let laid : lay j [] 1 ≡ Some (Kid d.0 ∷ []) = d.1 in
-    let grammar : layout j [] 1 ≡ Some (Kid d.0 ∷ []) = lay_layout j [] 1 (Kid d.0 ∷ []) laid in
+    let d = first_kid_eq (layout j [] 1) k [] p.1 in
+    let laid : layout j [] 1 ≡ Some (Kid d.0 ∷ []) = d.1 in
+    let grammar : layout j [] 1 ≡ Some (Kid d.0 ∷ []) = laid in
     let member : has d.0 t.kind ≡ true = rw node.kind_is d.2 in (
       used,
       split,
@@ -233,8 +234,8 @@ on_grow_ok root c k t fs m (Shift j v n) b whole used before (y ∷ ys) node qui
     let q = &&_split _ _ p.0 in
     let r = &&_split _ _ q.0 in
     let s = &&_split _ _ r.0 in
-    let d = first_kid_eq (lay j v (suc (kids_in n))) k (Literal y.lexeme ∷ n) p.1 in
-    let laid : lay j v (suc (kids_in n)) ≡ Some (Kid d.0 ∷ Literal y.lexeme ∷ n) = d.1 in
+    let d = first_kid_eq (layout j v (suc (kids_in n))) k (Literal y.lexeme ∷ n) p.1 in
+    let laid : layout j v (suc (kids_in n)) ≡ Some (Kid d.0 ∷ Literal y.lexeme ∷ n) = d.1 in
     let member : has d.0 t.kind ≡ true = rw node.kind_is d.2 in (
       used ++ mark y.lexeme ∷ [],
       one_more used (mark y.lexeme) y ys whole (marked_symbol y s.0 clean.0) split,
@@ -253,8 +254,8 @@ on_grow_ok root c k t fs m (Enter j n) b whole used before ys node quiet below u
     let p = &&_split _ _ ok in
     let q = &&_split _ _ p.0 in
     let r = &&_split _ _ q.0 in
-    let d = first_kid_eq (lay j [] (suc (kids_in n))) k n p.1 in
-    let laid : lay j [] (suc (kids_in n)) ≡ Some (Kid d.0 ∷ n) = d.1 in
+    let d = first_kid_eq (layout j [] (suc (kids_in n))) k n p.1 in
+    let laid : layout j [] (suc (kids_in n)) ≡ Some (Kid d.0 ∷ n) = d.1 in
     let member : has d.0 t.kind ≡ true = rw node.kind_is d.2 in (
       used,
       split,

@@ -1,5 +1,5 @@
 -- A node that goes on at a symbol that isn't its next item is the front of a node all the same; and an open statement isn't followed by `else`.
-use Rattle.std.proofs.Common.{◌≡◌, ℕ, zero, suc, ◌+◌, Bool, true, false, not, List, [], ◌∷◌, ◌++◌, Option, Some, None, refl, ap, sym, ◌∙◌, append_assoc, append-nil, add-zero, arith}
+use Rattle.std.proofs.Common.{◌≡◌, ℕ, zero, suc, ◌+◌, Bool, true, false, not, if◌then◌else◌, bytes_eq, List, [], ◌∷◌, ◌++◌, Option, Some, None, refl, ap, sym, ◌∙◌, append_assoc, append-nil, add-zero, arith}
 use Rattle.std.proofs.lemmas.List.{append_cancel_right}
 use Rattle.pc_syntax.specs.declared.lexeme.Lexeme.{Lexeme}
 use Rattle.pc_syntax.specs.declared.lexeme.Lexeme.TheVariants as lexeme
@@ -12,10 +12,10 @@ use Rattle.pc_syntax.specs.declared.item.Item.{Item}
 use Rattle.pc_syntax.specs.declared.item.Item.TheVariants.{Literal, Word, Kid}
 use Rattle.pc_syntax.specs.Plain.{Forest, Nil, Cons, count, kinds}
 use Rattle.pc_syntax.specs.Spellings.{spelling_of}
-use Rattle.pc_syntax.specs.Layout.{operator, around, further, elements, some_elements}
+use Rattle.pc_syntax.specs.Layout.{operator, around, last_semicolon, further, elements, some_elements}
 use Rattle.pc_syntax.specs.Symbols.{Sym, fill, texts}
 use Rattle.pc_syntax.specs.WellFormed.{fits, opens, last_open, second_open}
-use Rattle.pc_parse.specs.Tables.{switch, turned_word, again}
+use Rattle.pc_parse.specs.Tables.{switch, recast, turned_word, again}
 use Rattle.pc_parse.proofs.Entries.{&&_split}
 use Rattle.pc_parse.proofs.SoundTables.{corner, is_mark, marks, is_empty}
 use Rattle.pc_parse.proofs.SoundFrames.{true-false, some_eq, mark, past_second, FrontOk, fits-more, filled, mark_front}
@@ -51,17 +51,17 @@ list_more x c (suc n) pre h =
     let e : pre ≡ Kid c ∷ further (Some x) c n [] = cc in
     rw (append_assoc pre (Literal x ∷ []) (Kid c ∷ []), e) (ap (λ l. Some (Kid c ∷ l)) (sym (further_more x c n [])))
 
-abbrev parens : Class → ℕ → Option (List Item)
-parens c n = elements (Literal lexeme.OpenParen ∷ []) (Some lexeme.Comma) c (Literal lexeme.CloseParen ∷ []) n
+abbrev parens : Lexeme → Class → ℕ → Option (List Item)
+parens x c n = elements (Literal lexeme.OpenParen ∷ []) (Some x) c (Literal lexeme.CloseParen ∷ []) n
 
-parens_more : (c : Class) (n : ℕ) (pre : List Item) → parens c n ≡ Some (pre ++ Literal lexeme.CloseParen ∷ []) → parens c (suc n) ≡ Some ((pre ++ Literal lexeme.Comma ∷ []) ++ (Kid c ∷ Literal lexeme.CloseParen ∷ []))
-parens_more c zero [] h = cc
-parens_more c zero (i ∷ pre) h = cc
-parens_more c (suc n) pre h =
-    let front = Literal lexeme.OpenParen ∷ Kid c ∷ further (Some lexeme.Comma) c n [] in
+parens_more : (x : Lexeme) (c : Class) (n : ℕ) (pre : List Item) → parens x c n ≡ Some (pre ++ Literal lexeme.CloseParen ∷ []) → parens x c (suc n) ≡ Some ((pre ++ Literal x ∷ []) ++ (Kid c ∷ Literal lexeme.CloseParen ∷ []))
+parens_more x c zero [] h = cc
+parens_more x c zero (i ∷ pre) h = cc
+parens_more x c (suc n) pre h =
+    let front = Literal lexeme.OpenParen ∷ Kid c ∷ further (Some x) c n [] in
     let close = Literal lexeme.CloseParen ∷ [] in
-    let e : front ≡ pre = append_cancel_right front pre close (ap (λ l. Literal lexeme.OpenParen ∷ Kid c ∷ l) (further_close lexeme.Comma c n close) ∙ some_eq _ _ h) in
-    rw (append_assoc pre (Literal lexeme.Comma ∷ []) (Kid c ∷ close), ← e) (ap (λ l. Some (Literal lexeme.OpenParen ∷ Kid c ∷ l)) (sym (further_more lexeme.Comma c n close)))
+    let e : front ≡ pre = append_cancel_right front pre close (ap (λ l. Literal lexeme.OpenParen ∷ Kid c ∷ l) (further_close x c n close) ∙ some_eq _ _ h) in
+    rw (append_assoc pre (Literal x ∷ []) (Kid c ∷ close), ← e) (ap (λ l. Some (Literal lexeme.OpenParen ∷ Kid c ∷ l)) (sym (further_more x c n close)))
 
 items_more : (x : Lexeme) (c : Class) (n : ℕ) (pre : List Item) → elements (Literal x ∷ []) None c [] n ≡ Some pre → is_empty pre ≡ false
     → elements (Literal x ∷ []) None c [] (suc n) ≡ Some (pre ++ Kid c ∷ [])
@@ -152,7 +152,7 @@ front_of y (a ∷ b ∷ c ∷ d ∷ e ∷ f ∷ g ∷ i ∷ []) n h = cc
 front_of y (a ∷ b ∷ c ∷ d ∷ e ∷ f ∷ g ∷ i ∷ j ∷ pre) n h = cc
 
 -- items without a word say nothing of it
-fill_word : (l : List Item) (w v : List ℕ) (us : List (List Sym)) → marks l ≡ true → fill l w us ≡ fill l v us
+pub fill_word : (l : List Item) (w v : List ℕ) (us : List (List Sym)) → marks l ≡ true → fill l w us ≡ fill l v us
 fill_word [] w v us h = refl
 fill_word (Literal x ∷ l) w v us h = ap (λ m. mark x ∷ m) (fill_word l w v us (&&_split _ _ h).1)
 fill_word (Word x ∷ l) w v us h = cc
@@ -198,6 +198,45 @@ stmts_more (b ∷ w) ks pre text ok = none-some _ ok.laid
 stmts_more [] ks pre text ok =
     let laid : some_elements (Some lexeme.Semicolon) class.Statement (count ks) ≡ Some pre = rw (add-zero (count ks), append-nil pre) at ok.laid in record {
       front = mark_front kind.Stmts [] ks [] lexeme.Semicolon kind.Stmts (Kid class.Statement ∷ []) pre text ok (rw (add_one (count ks)) (list_more lexeme.Semicolon class.Statement (count ks) pre laid)) refl refl refl;
+      marked = refl;
+      corners = λ c h. h;
+    }
+
+arms_switch : (items : List Item) (x : Lexeme) (p : Kind × List Item) → switch kind.Arms items (Some x) ≡ Some p → Goes items x p [] lexeme.Semicolon kind.Arms (Kid class.Arm ∷ [])
+arms_switch [] lexeme.Semicolon p e = record { items_are = refl; symbol_is = refl; kind_is = first_eq _ _ e; more_are = second_eq _ _ e }
+arms_switch _ _ p e = none-some p e
+
+arms_more : (w : List ℕ) (ks : Forest) (pre : List Item) (text : List Sym) → FrontOk kind.Arms w ks [] pre text → Switching kind.Arms w ks lexeme.Semicolon kind.Arms (Kid class.Arm ∷ []) pre text
+arms_more (b ∷ w) ks pre text ok = none-some _ ok.laid
+arms_more [] ks pre text ok =
+    let laid : some_elements (Some lexeme.Semicolon) class.Arm (count ks) ≡ Some pre = rw (add-zero (count ks), append-nil pre) at ok.laid in record {
+      front = mark_front kind.Arms [] ks [] lexeme.Semicolon kind.Arms (Kid class.Arm ∷ []) pre text ok (rw (add_one (count ks)) (list_more lexeme.Semicolon class.Arm (count ks) pre laid)) refl refl refl;
+      marked = refl;
+      corners = λ c h. h;
+    }
+
+fields_switch : (items : List Item) (x : Lexeme) (p : Kind × List Item) → switch kind.Fields items (Some x) ≡ Some p → Goes items x p [] lexeme.Semicolon kind.Fields (Kid class.Field ∷ [])
+fields_switch [] lexeme.Semicolon p e = record { items_are = refl; symbol_is = refl; kind_is = first_eq _ _ e; more_are = second_eq _ _ e }
+fields_switch _ _ p e = none-some p e
+
+fields_more : (w : List ℕ) (ks : Forest) (pre : List Item) (text : List Sym) → FrontOk kind.Fields w ks [] pre text → Switching kind.Fields w ks lexeme.Semicolon kind.Fields (Kid class.Field ∷ []) pre text
+fields_more (b ∷ w) ks pre text ok = none-some _ ok.laid
+fields_more [] ks pre text ok =
+    let laid : some_elements (Some lexeme.Semicolon) class.Field (count ks) ≡ Some pre = rw (add-zero (count ks), append-nil pre) at ok.laid in record {
+      front = mark_front kind.Fields [] ks [] lexeme.Semicolon kind.Fields (Kid class.Field ∷ []) pre text ok (rw (add_one (count ks)) (list_more lexeme.Semicolon class.Field (count ks) pre laid)) refl refl refl;
+      marked = refl;
+      corners = λ c h. h;
+    }
+
+labels_switch : (items : List Item) (x : Lexeme) (p : Kind × List Item) → switch kind.Labels items (Some x) ≡ Some p → Goes items x p [] lexeme.Comma kind.Labels (Kid class.Constant ∷ [])
+labels_switch [] lexeme.Comma p e = record { items_are = refl; symbol_is = refl; kind_is = first_eq _ _ e; more_are = second_eq _ _ e }
+labels_switch _ _ p e = none-some p e
+
+labels_more : (w : List ℕ) (ks : Forest) (pre : List Item) (text : List Sym) → FrontOk kind.Labels w ks [] pre text → Switching kind.Labels w ks lexeme.Comma kind.Labels (Kid class.Constant ∷ []) pre text
+labels_more (b ∷ w) ks pre text ok = none-some _ ok.laid
+labels_more [] ks pre text ok =
+    let laid : some_elements (Some lexeme.Comma) class.Constant (count ks) ≡ Some pre = rw (add-zero (count ks), append-nil pre) at ok.laid in record {
+      front = mark_front kind.Labels [] ks [] lexeme.Comma kind.Labels (Kid class.Constant ∷ []) pre text ok (rw (add_one (count ks)) (list_more lexeme.Comma class.Constant (count ks) pre laid)) refl refl refl;
       marked = refl;
       corners = λ c h. h;
     }
@@ -284,8 +323,8 @@ args_more : (w : List ℕ) (ks : Forest) (pre : List Item) (text : List Sym) →
 args_more (b ∷ w) ks pre text ok = none-some _ ok.laid
 args_more [] ks pre text ok =
     let close = Literal lexeme.CloseParen ∷ [] in
-    let laid : parens class.Argument (count ks) ≡ Some (pre ++ close) = rw (add-zero (count ks)) at ok.laid in record {
-      front = mark_front kind.Args [] ks close lexeme.Comma kind.Args (Kid class.Argument ∷ close) pre text ok (rw (add_one (count ks)) (parens_more class.Argument (count ks) pre laid)) refl refl refl;
+    let laid : parens lexeme.Comma class.Argument (count ks) ≡ Some (pre ++ close) = rw (add-zero (count ks)) at ok.laid in record {
+      front = mark_front kind.Args [] ks close lexeme.Comma kind.Args (Kid class.Argument ∷ close) pre text ok (rw (add_one (count ks)) (parens_more lexeme.Comma class.Argument (count ks) pre laid)) refl refl refl;
       marked = refl;
       corners = λ c h. h;
     }
@@ -300,8 +339,24 @@ heads_more : (w : List ℕ) (ks : Forest) (pre : List Item) (text : List Sym) �
 heads_more (b ∷ w) ks pre text ok = none-some _ ok.laid
 heads_more [] ks pre text ok =
     let close = Literal lexeme.CloseParen ∷ [] in
-    let laid : parens class.Name (count ks) ≡ Some (pre ++ close) = rw (add-zero (count ks)) at ok.laid in record {
-      front = mark_front kind.Heads [] ks close lexeme.Comma kind.Heads (Kid class.Name ∷ close) pre text ok (rw (add_one (count ks)) (parens_more class.Name (count ks) pre laid)) refl refl refl;
+    let laid : parens lexeme.Comma class.Name (count ks) ≡ Some (pre ++ close) = rw (add-zero (count ks)) at ok.laid in record {
+      front = mark_front kind.Heads [] ks close lexeme.Comma kind.Heads (Kid class.Name ∷ close) pre text ok (rw (add_one (count ks)) (parens_more lexeme.Comma class.Name (count ks) pre laid)) refl refl refl;
+      marked = refl;
+      corners = λ c h. h;
+    }
+
+params_switch : (items : List Item) (x : Lexeme) (p : Kind × List Item) → switch kind.Params items (Some x) ≡ Some p
+    → Goes items x p (Literal lexeme.CloseParen ∷ []) lexeme.Semicolon kind.Params (Kid class.Parameter ∷ Literal lexeme.CloseParen ∷ [])
+params_switch (Literal lexeme.CloseParen ∷ []) lexeme.Semicolon p e = record { items_are = refl; symbol_is = refl; kind_is = first_eq _ _ e; more_are = second_eq _ _ e }
+params_switch _ _ p e = none-some p e
+
+params_more : (w : List ℕ) (ks : Forest) (pre : List Item) (text : List Sym) → FrontOk kind.Params w ks (Literal lexeme.CloseParen ∷ []) pre text
+    → Switching kind.Params w ks lexeme.Semicolon kind.Params (Kid class.Parameter ∷ Literal lexeme.CloseParen ∷ []) pre text
+params_more (b ∷ w) ks pre text ok = none-some _ ok.laid
+params_more [] ks pre text ok =
+    let close = Literal lexeme.CloseParen ∷ [] in
+    let laid : parens lexeme.Semicolon class.Parameter (count ks) ≡ Some (pre ++ close) = rw (add-zero (count ks)) at ok.laid in record {
+      front = mark_front kind.Params [] ks close lexeme.Semicolon kind.Params (Kid class.Parameter ∷ close) pre text ok (rw (add_one (count ks)) (parens_more lexeme.Semicolon class.Parameter (count ks) pre laid)) refl refl refl;
       marked = refl;
       corners = λ c h. h;
     }
@@ -311,6 +366,9 @@ pub switched_ok : (j : Kind) (w : List ℕ) (ks : Forest) (items : List Item) (x
 switched_ok kind.If w ks items x k m pre text e ok calm = let g = if_switch items x (k, m) e in rw (g.symbol_is, g.kind_is, g.more_are) (if_more w ks pre text (rw g.items_are at ok) (rw g.symbol_is at calm))
 switched_ok kind.For w ks items x k m pre text e ok calm = let g = for_switch items x (k, m) e in rw (g.1.symbol_is, g.1.kind_is, g.1.more_are) (for_more w ks g.0 pre text (rw g.1.items_are at ok))
 switched_ok kind.Stmts w ks items x k m pre text e ok calm = let g = stmts_switch items x (k, m) e in rw (g.symbol_is, g.kind_is, g.more_are) (stmts_more w ks pre text (rw g.items_are at ok))
+switched_ok kind.Arms w ks items x k m pre text e ok calm = let g = arms_switch items x (k, m) e in rw (g.symbol_is, g.kind_is, g.more_are) (arms_more w ks pre text (rw g.items_are at ok))
+switched_ok kind.Fields w ks items x k m pre text e ok calm = let g = fields_switch items x (k, m) e in rw (g.symbol_is, g.kind_is, g.more_are) (fields_more w ks pre text (rw g.items_are at ok))
+switched_ok kind.Labels w ks items x k m pre text e ok calm = let g = labels_switch items x (k, m) e in rw (g.symbol_is, g.kind_is, g.more_are) (labels_more w ks pre text (rw g.items_are at ok))
 switched_ok kind.Indexes w ks items x k m pre text e ok calm = let g = indexes_switch items x (k, m) e in rw (g.symbol_is, g.kind_is, g.more_are) (indexes_more w ks pre text (rw g.items_are at ok))
 switched_ok kind.Exprs w ks items x k m pre text e ok calm = let g = exprs_switch items x (k, m) e in rw (g.symbol_is, g.kind_is, g.more_are) (exprs_more w ks pre text (rw g.items_are at ok))
 switched_ok kind.Accesses w ks items x k m pre text e ok calm = let g = accesses_switch items x (k, m) e in rw (g.symbol_is, g.kind_is, g.more_are) (accesses_more w ks pre text (rw g.items_are at ok))
@@ -318,19 +376,120 @@ switched_ok kind.Members w ks items x k m pre text e ok calm = let g = members_s
 switched_ok kind.Names w ks items x k m pre text e ok calm = let g = names_switch items x (k, m) e in rw (g.symbol_is, g.kind_is, g.more_are) (names_more w ks pre text (rw g.items_are at ok))
 switched_ok kind.Args w ks items x k m pre text e ok calm = let g = args_switch items x (k, m) e in rw (g.symbol_is, g.kind_is, g.more_are) (args_more w ks pre text (rw g.items_are at ok))
 switched_ok kind.Heads w ks items x k m pre text e ok calm = let g = heads_switch items x (k, m) e in rw (g.symbol_is, g.kind_is, g.more_are) (heads_more w ks pre text (rw g.items_are at ok))
+switched_ok kind.Params w ks items x k m pre text e ok calm = let g = params_switch items x (k, m) e in rw (g.symbol_is, g.kind_is, g.more_are) (params_more w ks pre text (rw g.items_are at ok))
 switched_ok _ w ks items x k m pre text e ok calm = none-some (k, m) e
+
+-- A node that goes on as another where its next item can't come, and leaves the symbol.
+pub record Recasting (j : Kind) (w : List ℕ) (ks : Forest) (k : Kind) (m pre : List Item) (text : List Sym) : Type 0 where
+  pub front : FrontOk k w ks m pre text
+  pub corners : (c : Class) → corner c j ≡ true → corner c k ≡ true
+
+-- The items, and what comes of them.
+record Casts (items : List Item) (p : Kind × List Item) (items2 : List Item) (k : Kind) (m : List Item) : Type 0 where
+  items_are : items ≡ items2
+  kind_is : p.0 ≡ k
+  more_are : p.1 ≡ m
+
+-- a function before what follows its name, and the parts after it, without a result and with one
+abbrev function_front : List Item
+function_front = Literal lexeme.KeyFunction ∷ Kid class.Name ∷ []
+
+abbrev body_items : List Item
+body_items = Literal lexeme.Semicolon ∷ Kid class.Block ∷ Literal lexeme.Semicolon ∷ []
+
+abbrev result_items : List Item
+result_items = Kid class.Params ∷ Literal lexeme.Colon ∷ Kid class.Name ∷ body_items
+
+funbody_casts : (items : List Item) (x : Option Lexeme) (p : Kind × List Item) → recast kind.Funbody items x ≡ Some p → Casts items p body_items kind.Function result_items
+funbody_casts (Literal lexeme.Semicolon ∷ Kid class.Block ∷ Literal lexeme.Semicolon ∷ []) (Some lexeme.OpenParen) p e = record { items_are = refl; kind_is = first_eq _ _ e; more_are = second_eq _ _ e }
+funbody_casts (Literal lexeme.Semicolon ∷ Kid class.Block ∷ Literal lexeme.Semicolon ∷ []) (Some lexeme.Colon) p e = record { items_are = refl; kind_is = first_eq _ _ e; more_are = second_eq _ _ e }
+funbody_casts _ _ p e = none-some p e
+
+function_corner : (c : Class) → corner c kind.Funbody ≡ true → corner c kind.Function ≡ true
+function_corner class.Program h = cc
+function_corner _ h = cc
+
+funbody_more : (w : List ℕ) (ks : Forest) (pre : List Item) (text : List Sym) → FrontOk kind.Funbody w ks body_items pre text → Recasting kind.Funbody w ks kind.Function result_items pre text
+funbody_more (b ∷ w) ks pre text ok = none-some _ ok.laid
+funbody_more [] ks pre text ok =
+    let front : pre ≡ function_front = sym (append_cancel_right function_front pre body_items (some_eq _ _ ok.laid)) in record {
+      front = record { laid = rw front refl; fit = ok.fit; good = ok.good; text_is = ok.text_is; rule = refl; past = refl; marked = refl; begun = rw front refl };
+      corners = function_corner;
+    }
+
+no_kid_ends : (l : List Item) (x : Lexeme) → ends_kid (l ++ Literal x ∷ []) ≡ false
+no_kid_ends [] x = refl
+no_kid_ends (Literal z ∷ l) x = no_kid_ends l x
+no_kid_ends (Word z ∷ l) x = no_kid_ends l x
+no_kid_ends (Kid d ∷ []) x = refl
+no_kid_ends (Kid d ∷ z ∷ l) x = no_kid_ends (z ∷ l) x
+
+kid_ends : (l : List Item) (c : Class) → ends_kid (l ++ Kid c ∷ []) ≡ true
+kid_ends [] c = refl
+kid_ends (Literal z ∷ l) c = kid_ends l c
+kid_ends (Word z ∷ l) c = kid_ends l c
+kid_ends (Kid d ∷ []) c = refl
+kid_ends (Kid d ∷ z ∷ l) c = kid_ends (z ∷ l) c
+
+-- a node with a last `;` or none that awaits its list and then the end has none
+pub awaits_list : (w : List ℕ) (front pre : List Item) (c : Class) → last_semicolon w (front ++ Kid c ∷ []) (Literal lexeme.KeyEnd ∷ []) ≡ Some (pre ++ Kid c ∷ Literal lexeme.KeyEnd ∷ [])
+    → (w ≡ []) × (pre ≡ front)
+awaits_list [] front pre c h =
+    let close = Literal lexeme.KeyEnd ∷ [] in
+    let e : (front ++ Kid c ∷ []) ++ close ≡ pre ++ Kid c ∷ close = some_eq _ _ h in
+    (refl, sym (append_cancel_right front pre (Kid c ∷ close) (sym (append_assoc front (Kid c ∷ []) close) ∙ e)))
+awaits_list (b ∷ w) front pre c h = go (bytes_eq (b ∷ w) (spelling_of lexeme.Semicolon)) h
+  where
+    go : (t : Bool) → (if t then Some ((front ++ Kid c ∷ []) ++ Literal lexeme.Semicolon ∷ Literal lexeme.KeyEnd ∷ []) else None) ≡ Some (pre ++ Kid c ∷ Literal lexeme.KeyEnd ∷ []) → (b ∷ w ≡ []) × (pre ≡ front)
+    go false i = none-some _ i
+    go true i =
+        let l = front ++ Kid c ∷ [] in
+        let close = Literal lexeme.KeyEnd ∷ [] in
+        let e : l ++ Literal lexeme.Semicolon ∷ close ≡ pre ++ Kid c ∷ close = some_eq _ _ i in
+        let f : (l ++ Literal lexeme.Semicolon ∷ []) ++ close ≡ (pre ++ Kid c ∷ []) ++ close = append_assoc l (Literal lexeme.Semicolon ∷ []) close ∙ e ∙ sym (append_assoc pre (Kid c ∷ []) close) in
+        let g : l ++ Literal lexeme.Semicolon ∷ [] ≡ pre ++ Kid c ∷ [] = append_cancel_right _ _ close f in
+        true-false (sym (kid_ends pre c) ∙ ap ends_kid (sym g) ∙ no_kid_ends l lexeme.Semicolon)
+
+record_goes : (items : List Item) (x : Option Lexeme) (p : Kind × List Item) → recast kind.Record items x ≡ Some p
+    → (items ≡ Kid class.Fields ∷ Literal lexeme.KeyEnd ∷ []) × (p.0 ≡ kind.Record0) × (p.1 ≡ Literal lexeme.KeyEnd ∷ [])
+record_goes (Kid class.Fields ∷ Literal lexeme.KeyEnd ∷ []) (Some lexeme.KeyEnd) p e = (refl, first_eq _ _ e, second_eq _ _ e)
+record_goes _ _ p e = none-some p e
+
+record_corner : (c : Class) → corner c kind.Record ≡ true → corner c kind.Record0 ≡ true
+record_corner class.Program h = cc
+record_corner _ h = cc
+
+record_recast : (w : List ℕ) (ks : Forest) (pre : List Item) (text : List Sym) → FrontOk kind.Record w ks (Kid class.Fields ∷ Literal lexeme.KeyEnd ∷ []) pre text
+    → Recasting kind.Record w ks kind.Record0 (Literal lexeme.KeyEnd ∷ []) pre text
+record_recast (b ∷ w) ks pre text ok =
+    let none : b ∷ w ≡ [] = (awaits_list (b ∷ w) (Literal lexeme.KeyRecord ∷ []) pre class.Fields ok.laid).0 in cc
+record_recast [] ks pre text ok =
+    let front : pre ≡ Literal lexeme.KeyRecord ∷ [] = (awaits_list [] (Literal lexeme.KeyRecord ∷ []) pre class.Fields ok.laid).1 in record {
+      front = record { laid = rw front refl; fit = ok.fit; good = ok.good; text_is = ok.text_is; rule = refl; past = refl; marked = refl; begun = rw front refl };
+      corners = record_corner;
+    }
+
+pub recast_ok : (j : Kind) (w : List ℕ) (ks : Forest) (items : List Item) (x : Option Lexeme) (k : Kind) (m pre : List Item) (text : List Sym)
+    → recast j items x ≡ Some (k, m) → FrontOk j w ks items pre text → Recasting j w ks k m pre text
+recast_ok kind.Funbody w ks items x k m pre text e ok = let g = funbody_casts items x (k, m) e in rw (g.kind_is, g.more_are) (funbody_more w ks pre text (rw g.items_are at ok))
+recast_ok kind.Record w ks items x k m pre text e ok = let g = record_goes items x (k, m) e in rw (g.1, g.2) (record_recast w ks pre text (rw g.0 at ok))
+recast_ok _ w ks items x k m pre text e ok = none-some (k, m) e
 
 -- at the end nothing goes on
 pub switch_none : (j : Kind) (items : List Item) → switch j items None ≡ None
 switch_none kind.If [] = refl
 switch_none kind.For (Literal lexeme.KeyTo ∷ m) = refl
 switch_none kind.Stmts [] = refl
+switch_none kind.Arms [] = refl
+switch_none kind.Fields [] = refl
+switch_none kind.Labels [] = refl
 switch_none kind.Indexes [] = refl
 switch_none kind.Exprs [] = refl
 switch_none kind.Accesses [] = refl
 switch_none kind.Members [] = refl
 switch_none kind.Names [] = refl
 switch_none kind.Args (Literal lexeme.CloseParen ∷ []) = refl
+switch_none kind.Params (Literal lexeme.CloseParen ∷ []) = refl
 switch_none kind.Heads (Literal lexeme.CloseParen ∷ []) = refl
 switch_none _ _ = refl
 
@@ -354,6 +513,20 @@ types_again (Some (lexeme.Hole sort.TypeDef)) c e = sym (some_eq _ _ e)
 types_again (Some (lexeme.Hole sort.Name)) c e = sym (some_eq _ _ e)
 types_again (Some (lexeme.Hole _)) c e = cc
 types_again _ c e = cc
+
+routines_again : (x : Option Lexeme) (c : Class) → again kind.Routines x ≡ Some c → c ≡ class.Routine
+routines_again (Some lexeme.KeyProcedure) c e = sym (some_eq _ _ e)
+routines_again (Some lexeme.KeyFunction) c e = sym (some_eq _ _ e)
+routines_again (Some (lexeme.Hole sort.Routine)) c e = sym (some_eq _ _ e)
+routines_again (Some (lexeme.Hole _)) c e = cc
+routines_again _ c e = cc
+
+routine_more : (n : ℕ) (pre : List Item) → elements [] None class.Routine [] n ≡ Some pre → is_empty pre ≡ false → elements [] None class.Routine [] (suc n) ≡ Some (pre ++ Kid class.Routine ∷ [])
+routine_more zero [] h e = true-false e
+routine_more zero (i ∷ pre) h e = cc
+routine_more (suc n) pre h e =
+    let front : pre ≡ Kid class.Routine ∷ further None class.Routine n [] = sym (some_eq _ _ h) in
+    rw front (ap (λ l. Some (Kid class.Routine ∷ l)) (sym (further_again class.Routine n)))
 
 -- a list without separators goes on
 pub again_ok : (k : Kind) (w : List ℕ) (ks : Forest) (x : Option Lexeme) (c : Class) (pre : List Item) (text : List Sym)
@@ -405,6 +578,22 @@ again_ok kind.Vars [] ks x c pre text e ok =
       past = refl;
       marked = refl;
       begun = not_empty class.Vardef pre;
+    }
+again_ok kind.Routines (b ∷ w) ks x c pre text e ok = let h = ok.laid in cc
+again_ok kind.Routines [] ks x c pre text e ok =
+    let ec : c ≡ class.Routine = routines_again x c e in
+    let laid : elements [] None class.Routine [] (count ks) ≡ Some pre = rw (add-zero (count ks), append-nil pre) at ok.laid in
+    let begun : is_empty pre ≡ false = rw (append-nil pre) at ok.begun in
+    let number : count ks + 1 ≡ suc (count ks) = omega arith in
+    rw ec record {
+      laid = rw number (routine_more (count ks) pre laid begun);
+      fit = ok.fit;
+      good = ok.good;
+      text_is = ok.text_is;
+      rule = refl;
+      past = refl;
+      marked = refl;
+      begun = not_empty class.Routine pre;
     }
 again_ok _ w ks x c pre text e ok = cc
 

@@ -1,5 +1,5 @@
 -- The tables of the reading machine, against the grammar.
-use Rattle.std.proofs.Common.{◌≡◌, ℕ, zero, suc, Bool, true, false, ◌&&◌, not, List, [], ◌∷◌, Option, Some, None, refl, ap}
+use Rattle.std.proofs.Common.{◌≡◌, suc, Bool, true, false, ◌&&◌, not, List, [], ◌∷◌, Option, Some, None, refl, ap}
 use Rattle.pc_syntax.specs.declared.lexeme.Lexeme.{Lexeme}
 use Rattle.pc_syntax.specs.declared.lexeme.Lexeme.TheVariants as lexeme
 use Rattle.pc_syntax.specs.declared.kind.Kind.{Kind}
@@ -9,9 +9,10 @@ use Rattle.pc_syntax.specs.declared.class.Class.{Class}
 use Rattle.pc_syntax.specs.declared.class.Class.TheVariants as class
 use Rattle.pc_syntax.specs.declared.item.Item.{Item}
 use Rattle.pc_syntax.specs.declared.item.Item.TheVariants.{Literal, Word, Kid}
+use Rattle.pc_syntax.specs.Layout.{layout}
 use Rattle.pc_syntax.specs.Classes.{has}
 use Rattle.pc_syntax.specs.WellFormed.{opens}
-use Rattle.pc_parse.specs.Reading.{lay}
+use Rattle.pc_parse.specs.Partial.{kids_in}
 use Rattle.pc_parse.specs.Lookahead.{same_at}
 use Rattle.pc_parse.specs.Tables.{Start, Leaf, Open, Predict, Blank, NoStart, start, Grow, Give, Wrap, Shift, Enter, grow}
 use Rattle.pc_parse.proofs.Entries.{each, implies, implies_true, &&_split, all_kinds, all_lookaheads, at_kind, at_class, at_lookahead}
@@ -27,6 +28,7 @@ corner class.Statement kind.Select = true
 corner class.Statement kind.Deref = true
 corner class.Argument kind.Name = true
 corner class.Member kind.Name = true
+corner class.Operand kind.Name = true
 corner class.Expression kind.Name = true
 corner class.Simple kind.Name = true
 corner class.Term kind.Name = true
@@ -36,6 +38,7 @@ corner class.Denoter (kind.Hole sort.Name) = true
 corner class.Statement (kind.Hole sort.Name) = true
 corner class.Argument (kind.Hole sort.Name) = true
 corner class.Member (kind.Hole sort.Name) = true
+corner class.Operand (kind.Hole sort.Name) = true
 corner class.Expression (kind.Hole sort.Name) = true
 corner class.Simple (kind.Hole sort.Name) = true
 corner class.Term (kind.Hole sort.Name) = true
@@ -100,13 +103,6 @@ abbrev pub is_empty : List Item → Bool
 is_empty [] = true
 is_empty (i ∷ m) = false
 
--- how many kids there are
-abbrev pub kids_in : List Item → ℕ
-kids_in [] = zero
-kids_in (Literal x ∷ m) = kids_in m
-kids_in (Word x ∷ m) = kids_in m
-kids_in (Kid c ∷ m) = suc (kids_in m)
-
 -- a node with an else begins as one without
 abbrev pub has_else : Kind → Bool
 has_else kind.Ifelse = true
@@ -122,16 +118,16 @@ first_kid_lays _ k l = false
 
 abbrev pub start_ok : Class → Option Lexeme → Start → Bool
 start_ok c x (Leaf k) = is_word k x && corner c k
-start_ok c x (Open k v m) = is_mark_at x && corner c k && not (has_else k) && marks m && lays (lay k v (kids_in m)) (behind x m)
-start_ok c x (Predict k m) = corner c k && not (has_else k) && not (is_empty m) && marks m && lays (lay k [] (kids_in m)) m
-start_ok c x (Blank k) = corner c k && not (opens k false) && lays (lay k [] 0) []
+start_ok c x (Open k v m) = is_mark_at x && corner c k && not (has_else k) && marks m && lays (layout k v (kids_in m)) (behind x m)
+start_ok c x (Predict k m) = corner c k && not (has_else k) && not (is_empty m) && marks m && lays (layout k [] (kids_in m)) m
+start_ok c x (Blank k) = corner c k && not (opens k false) && lays (layout k [] 0) []
 start_ok c x NoStart = true
 
 abbrev pub grow_ok : Class → Kind → Option Lexeme → Grow → Bool
 grow_ok c k x Give = true
-grow_ok c k x (Wrap j) = corner c j && not (opens j true) && first_kid_lays (lay j [] 1) k []
-grow_ok c k x (Shift j v m) = is_mark_at x && corner c j && not (has_else j) && marks m && first_kid_lays (lay j v (suc (kids_in m))) k (behind x m)
-grow_ok c k x (Enter j m) = corner c j && not (has_else j) && marks m && first_kid_lays (lay j [] (suc (kids_in m))) k m
+grow_ok c k x (Wrap j) = corner c j && not (opens j true) && first_kid_lays (layout j [] 1) k []
+grow_ok c k x (Shift j v m) = is_mark_at x && corner c j && not (has_else j) && marks m && first_kid_lays (layout j v (suc (kids_in m))) k (behind x m)
+grow_ok c k x (Enter j m) = corner c j && not (has_else j) && marks m && first_kid_lays (layout j [] (suc (kids_in m))) k m
 
 pub starts_ok : (c : Class) (x : Option Lexeme) → start_ok c x (start c x) ≡ true
 starts_ok c x = at_lookahead (λ y. start_ok c y (start c y)) x (at_class (λ b. each (λ y. start_ok b y (start b y)) all_lookaheads) c refl)

@@ -11,12 +11,11 @@ use Rattle.pc_syntax.specs.declared.item.Item.{Item}
 use Rattle.pc_syntax.specs.declared.item.Item.TheVariants.{Literal, Kid}
 use Rattle.pc_syntax.specs.Plain.{Forest, Nil, Cons, count, kinds, trees_of}
 use Rattle.pc_syntax.specs.Classes.{has}
-use Rattle.pc_syntax.specs.Layout.{operator, further}
+use Rattle.pc_syntax.specs.Layout.{layout, operator, further}
 use Rattle.pc_syntax.specs.Spellings.{spelling_of}
 use Rattle.pc_syntax.specs.Symbols.{fill, texts, symbols}
 use Rattle.pc_syntax.specs.WellFormed.{fits, fits_some, second_open}
 use Rattle.pc_parse.specs.Lookahead.{look}
-use Rattle.pc_parse.specs.Reading.{lay}
 use Rattle.pc_parse.specs.Tables.{Open, Blank, start, Enter, grow}
 use Rattle.pc_parse.specs.Machine.{frame, Reading, Holding}
 use Rattle.pc_parse.specs.Runs.{Go, step}
@@ -30,7 +29,7 @@ use Rattle.pc_parse.proofs.Fronts.{by_name, around_fits}
 
 -- what is asked of each kind
 abbrev pub IsFound : Kind → Type 0
-IsFound k = (w : List ℕ) (ks : Forest) → fits_some (lay k w (count ks)) (kinds ks) ≡ true → AllRead ks → Found k w ks
+IsFound k = (w : List ℕ) (ks : Forest) → fits_some (layout k w (count ks)) (kinds ks) ≡ true → AllRead ks → Found k w ks
 
 holes_open : (r : Sort) → opens_from (kind.Hole r) (kind.Hole r) [] (Some (lexeme.Hole r)) [] ≡ true
 holes_open sort.Program = refl
@@ -108,7 +107,7 @@ for_downto (Cons a u os hs (Cons b v ps bs ts)) fit all root c st m fs rest begi
     let input : symbols kind.For down (Cons a u os hs (Cons b v ps bs ts)) ++ rest ≡ mark lexeme.KeyFor ∷ (fill l1 up (texts two) ++ more) = ap (λ ys. mark lexeme.KeyFor ∷ ys) (left ∙ sym right) in
     let begun : Begins root st c fs (mark lexeme.KeyFor ∷ (fill l1 up (texts two) ++ more)) = rw input at begins in
     let opening : start c (Some lexeme.KeyFor) ≡ Open kind.For up n = opens_at kind.For kind.For up (Some lexeme.KeyFor) n c refl cor in
-    let next : step root st (mark lexeme.KeyFor ∷ (fill l1 up (texts two) ++ more)) ≡ Go (Reading (frame kind.For up [] n) fs) (fill l1 up (texts two) ++ more) = begun ∙ rw opening refl in
+    let next : step root st (mark lexeme.KeyFor ∷ (fill l1 up (texts two) ++ more)) ≡ Go (Reading (frame kind.For up [] n) fs) (fill l1 up (texts two) ++ more) = begun (rw opening refl) ∙ rw opening refl in
     let turn : step root (Reading (frame kind.For up (trees_of two) (Literal lexeme.KeyTo ∷ l2)) fs) more ≡ Go (Reading (frame kind.For down (trees_of two) l2) fs) (fill l2 down (texts ts) ++ rest) = refl in
     let okay_two : Okay l1 up two more = okay_of l1 up two more fit_two refl (λ p e. true-false p) in
     let okay_rest : Okay l2 down ts rest = okay_of l2 down ts rest fit3.1 tl (λ p e. last_open_after b v ps bs ts (quiet.closed e)) in
@@ -162,7 +161,7 @@ if_then [] ks fit all root c st m fs rest begins awaits cor tl quiet =
     straight root kind.If [] ks lexeme.KeyIf l c st fs rest refl (opens_at kind.If kind.If [] (Some lexeme.KeyIf) l c refl cor) refl begins all fit tl (λ p e. true-false (quiet.closed e)) (if_ends (look rest) quiet.closed)
 if_then (b ∷ w) ks fit all root c st m fs rest begins awaits cor tl quiet = cc
 
-pub if_else : (w : List ℕ) (ks : Forest) → fits_some (lay kind.Ifelse w (count ks)) (kinds ks) ≡ true → second_open ks ≡ false → AllRead ks → Found kind.Ifelse w ks
+pub if_else : (w : List ℕ) (ks : Forest) → fits_some (layout kind.Ifelse w (count ks)) (kinds ks) ≡ true → second_open ks ≡ false → AllRead ks → Found kind.Ifelse w ks
 if_else [] Nil fit rule all root c st m fs rest begins awaits cor tl quiet = cc
 if_else [] (Cons a u os hs Nil) fit rule all root c st m fs rest begins awaits cor tl quiet = true-false (sym (&&_split _ _ fit).1)
 if_else [] (Cons a u os hs (Cons b v ps bs Nil)) fit rule all root c st m fs rest begins awaits cor tl quiet = true-false (sym (&&_split _ _ (&&_split _ _ fit).1).1)

@@ -270,3 +270,16 @@ enters_to_eq (Enter j m) k l h =
     let p = &&_split _ _ h in
     let a : j ≡ k = same_kind_eq j k p.0 in
     let c : m ≡ l = same_items_eq m l p.1 in cc
+
+-- the test of a node that goes on as another
+abbrev pub recasts_to : Option (Kind × List Item) → Kind → List Item → Bool
+recasts_to None k l = false
+recasts_to (Some p) k l = same_kind p.0 k && same_items p.1 l
+
+pub recasts_to_eq : (o : Option (Kind × List Item)) (k : Kind) (l : List Item) → recasts_to o k l ≡ true → o ≡ Some (k, l)
+recasts_to_eq None k l h = cc
+recasts_to_eq (Some p) k l h =
+    let q : (same_kind p.0 k ≡ true) × (same_items p.1 l ≡ true) = &&_split _ _ h in
+    let a : p.0 ≡ k = same_kind_eq p.0 k q.0 in
+    let c : p.1 ≡ l = same_items_eq p.1 l q.1 in
+    λ i. Some (a i, c i)

@@ -1,7 +1,7 @@
 -- A number that each step of the reading machine makes smaller, so that it ends.
 use Rattle.std.specs.Prelude.{ℕ, suc, ◌+◌, ◌-◌, ◌*◌, List, [], ◌∷◌}
 use Rattle.pc_syntax.specs.declared.kind.Kind.{Kind}
-use Rattle.pc_syntax.specs.declared.kind.Kind.TheVariants.{Vardef, Vars, Name, Hole}
+use Rattle.pc_syntax.specs.declared.kind.Kind.TheVariants.{Vardef, Funbody, Vars, Name, Hole}
 use Rattle.pc_syntax.specs.declared.class.Class.{Class}
 use Rattle.pc_syntax.specs.declared.class.Class.TheVariants as class
 use Rattle.pc_syntax.specs.declared.item.Item.{Item}
@@ -13,21 +13,29 @@ abbrev pub node_energy : Kind → ℕ
 node_energy Name = 5
 node_energy Vars = 4
 node_energy Vardef = 5
+node_energy Funbody = 20
 node_energy (Hole s) = 5
 node_energy _ = 1
 
 -- what beginning a kid may take where no symbol is taken
 abbrev pub kid_energy : Class → ℕ
-kid_energy class.Block = 14
+kid_energy class.Block = 15
 kid_energy class.Heads = 2
 kid_energy class.Args = 2
 kid_energy class.Consts = 2
 kid_energy class.Types = 2
 kid_energy class.Vars = 5
-kid_energy class.Routines = 2
+kid_energy class.Params = 2
+kid_energy class.Parameter = 4
+kid_energy class.Routines = 3
 kid_energy class.Vardef = 4
 kid_energy class.Statement = 2
 kid_energy class.Names = 3
+kid_energy class.Labels = 3
+kid_energy class.Field = 4
+kid_energy class.Fields = 7
+kid_energy class.Arm = 4
+kid_energy class.Arms = 7
 kid_energy class.Indexes = 3
 kid_energy class.Exprs = 3
 kid_energy class.Accesses = 3

@@ -1,11 +1,15 @@
 pub mod Answers
+pub mod Comments
 pub mod Ends
 pub mod Energy
 pub mod Laws
 pub mod Lookahead
 pub mod Machine
 pub mod Measured
+pub mod Partial
+pub mod Placing
 pub mod Proper
+pub mod Quiet
 pub mod Reading
 pub mod Rows
 pub mod Runs

@@ -1,17 +1,19 @@
 -- The reading machine over what is kept of trees: the code runs it, so that a text of any depth and size is measured,
 -- and no tree is made that is not within the limits. Its steps are those of the machine over trees.
-use Rattle.std.specs.Prelude.{ℕ, Bool, true, false, if◌then◌else◌, List, [], ◌∷◌, Option, Some, None}
+use Rattle.std.specs.Prelude.{ℕ, Bool, true, false, ◌&&◌, if◌then◌else◌, List, [], ◌∷◌, Option, Some, None}
 use Rattle.pc_syntax.specs.declared.lexeme.Lexeme.{Lexeme}
+use Rattle.pc_syntax.specs.declared.lexeme.Lexeme.TheVariants as lexeme
 use Rattle.pc_syntax.specs.declared.kind.Kind.{Kind}
 use Rattle.pc_syntax.specs.declared.class.Class.{Class}
 use Rattle.pc_syntax.specs.declared.item.Item.{Item}
 use Rattle.pc_syntax.specs.declared.item.Item.TheVariants.{Literal, Word, Kid}
 use Rattle.pc_syntax.specs.Classes.{has}
+use Rattle.pc_syntax.specs.Spellings.{spelling_of}
 use Rattle.pc_parse.specs.declared.rows.Cut.{Cut}
 use Rattle.pc_parse.specs.Lookahead.{same_at}
-use Rattle.pc_parse.specs.Tables.{Start, Leaf, Open, Predict, Blank, NoStart, start, Grow, Give, Wrap, Shift, Enter, grow, switch, turned_word, again}
+use Rattle.pc_parse.specs.Tables.{Start, Leaf, Open, Predict, Blank, NoStart, start, Grow, Give, Wrap, Shift, Enter, grow, switch, recast, closes, turned_word, again}
 use Rattle.pc_parse.specs.Machine.{leaf_word, awaited}
-use Rattle.pc_parse.specs.Rows.{Row, no_kids, made, added}
+use Rattle.pc_parse.specs.Rows.{Row, no_kids, has_kids, made, added}
 
 -- the front of a node: what is kept of the kids so far, and what is left of its items
 pub record Frame : Type 0 where
@@ -51,6 +53,22 @@ abbrev pub on_switch : Option (Kind × List Item) → Plan → Frame → List Fr
 on_switch None other f fs = other
 on_switch (Some p) other f fs = Take (Reading (frame p.0 (turned_word p.0 f.word) f.kids p.1) fs)
 
+abbrev pub on_recast : Option (Kind × List Item) → Plan → Frame → List Frame → Plan
+on_recast None other f fs = other
+on_recast (Some p) other f fs = Stay (Reading (frame p.0 f.word f.kids p.1) fs)
+
+abbrev pub on_close : Bool → Frame → Frame → List Frame → Plan
+on_close false f g fs = Stuck
+on_close true f g fs = Stay (Reading (frame g.kind (spelling_of lexeme.Semicolon) (added g.kids (made f.kind f.word f.kids)) (Literal lexeme.KeyEnd ∷ [])) fs)
+
+abbrev pub at_close : List Item → Frame → List Frame → Plan
+at_close items f [] = Stuck
+at_close items f (g ∷ fs) = on_close (has_kids f.kids && closes f.kind items g.kind g.items) f g fs
+
+abbrev pub on_kid : Start → Plan → List ℕ → List Frame → Plan
+on_kid NoStart other w fs = other
+on_kid g other w fs = on_start g w fs
+
 abbrev pub on_again : Option Class → Option Lexeme → List ℕ → Frame → List Frame → Plan
 on_again None x w f fs = Stay (Holding f.kind (made f.kind f.word f.kids) fs)
 on_again (Some c) x w f fs = on_start (start c x) w (frame f.kind f.word f.kids (Kid c ∷ []) ∷ fs)
@@ -59,9 +77,9 @@ abbrev pub at_items : List Item → Frame → List Frame → Option Lexeme → L
 at_items [] f fs x w = on_switch (switch f.kind [] x) (on_again (again f.kind x) x w f fs) f fs
 at_items (Literal y ∷ m) f fs x w =
     if same_at y x then Take (Reading (frame f.kind f.word f.kids m) fs)
-    else on_switch (switch f.kind (Literal y ∷ m) x) Stuck f fs
+    else on_switch (switch f.kind (Literal y ∷ m) x) (on_recast (recast f.kind (Literal y ∷ m) x) Stuck f fs) f fs
 at_items (Word y ∷ m) f fs x w = Stuck
-at_items (Kid c ∷ m) f fs x w = on_start (start c x) w (f ∷ fs)
+at_items (Kid c ∷ m) f fs x w = on_kid (start c x) (on_recast (recast f.kind (Kid c ∷ m) x) (at_close (Kid c ∷ m) f fs) f fs) w (f ∷ fs)
 
 abbrev pub on_give : Bool → Cut → List Item → List Frame → Option Lexeme → Plan
 on_give false a m fs x = Stuck

@@ -1,6 +1,6 @@
 -- What is kept of trees while a text is read: how deep and how large they are, and themselves where they are within
 -- the limits.
-use Rattle.std.specs.Prelude.{ℕ, ◌+◌, ◌-◌, ◌^◌, min, max, nat_le, Bool, true, false, ◌&&◌, if◌then◌else◌, List, [], ◌∷◌, ◌++◌, Option, Some, None, map, sum_by}
+use Rattle.std.specs.Prelude.{ℕ, ◌==◌, not, ◌+◌, ◌-◌, ◌^◌, min, max, nat_le, Bool, true, false, ◌&&◌, if◌then◌else◌, List, [], ◌∷◌, ◌++◌, Option, Some, None, map, sum_by}
 use Rattle.std.specs.Option.{option_map}
 use Rattle.pc_syntax.specs.declared.kind.Kind.{Kind}
 use Rattle.pc_syntax.specs.Plain.{Plain, node}
@@ -36,6 +36,9 @@ row_of ts = record { depth = depth_kept (largest (map depth_of ts)); size = size
 -- no kids
 abbrev pub no_kids : Row
 no_kids = record { depth = 0; size = 0; trees = Some [] }
+
+abbrev pub has_kids : Row → Bool
+has_kids r = not (r.size == 0)
 
 -- what is kept of a node, from what is kept of its kids
 abbrev pub made : Kind → List ℕ → Row → Cut

@@ -3,12 +3,11 @@ use Rattle.std.specs.Prelude.{ℕ, Bool, true, false, ◌&&◌, if◌then◌else
 use Rattle.pc_syntax.specs.declared.lexeme.Lexeme.{Lexeme}
 use Rattle.pc_syntax.specs.declared.lexeme.Lexeme.TheVariants as lexeme
 use Rattle.pc_syntax.specs.declared.kind.Kind.{Kind}
-use Rattle.pc_syntax.specs.declared.kind.Kind.TheVariants.{Program, Block, Forward, Constdef, Typedef, Vardef, Tname, Enum, Subrange, Array, Setof, Packed, Pointer, Cnumber, Cstring, Cname, Csign, Empty, Assign, Proc, Compound, If, Ifelse, Repeat, While, For, With, Ref, Index, Select, Deref, Number, Text, Nil, Call, Parens, Not, Setcon, Mul, Add, Sign, Rel, Width, Span, Name, Heads, Args, Names, Indexes, Exprs, Accesses, Members, Vars, Stmts, Consts, Types, Routines, Hole}
+use Rattle.pc_syntax.specs.declared.kind.Kind.TheVariants.{Program, Block, Forward, Constdef, Typedef, Vardef, Valparam, Varparam, Procedure, Function, Funbody, Field, Tname, Enum, Subrange, Array, Record, Record0, Setof, Packed, Pointer, Cnumber, Cstring, Cname, Csign, Empty, Assign, Proc, Compound, If, Ifelse, Case, Arm, Repeat, While, For, With, Ref, Index, Select, Deref, Number, Text, Nil, Call, Parens, Not, Setcon, Mul, Add, Sign, Rel, Width, Span, Name, Heads, Args, Params, Names, Labels, Indexes, Exprs, Accesses, Members, Vars, Fields, Stmts, Arms, Consts, Types, Routines, Hole}
 use Rattle.pc_syntax.specs.declared.class.Class.{Class}
 use Rattle.pc_syntax.specs.declared.class.Class.TheVariants as class
 use Rattle.pc_syntax.specs.declared.item.Item.{Item}
 use Rattle.pc_syntax.specs.declared.item.Item.TheVariants.{Literal, Kid}
-use Rattle.pc_syntax.specs.declared.sort.Sort.{Sort}
 use Rattle.pc_syntax.specs.declared.sort.Sort.TheVariants as sort
 use Rattle.pc_syntax.specs.Spellings.{spelling_of}
 use Rattle.pc_parse.specs.Lookahead.{same_at}
@@ -21,10 +20,6 @@ pub data Start : Type 0 where
   Predict : Kind → List Item → Start
   Blank : Kind → Start
   NoStart : Start
-
--- a sort whose nodes can't be read so far, but for its hole
-abbrev pub hole_start : Sort → Option Lexeme → Start
-hole_start s x = if same_at (lexeme.Hole s) x then Open (Hole s) [] [] else NoStart
 
 abbrev pub name_start : Option Lexeme → Start
 name_start (Some lexeme.Identifier) = Leaf Name
@@ -44,8 +39,11 @@ block_start (Some lexeme.Identifier) = Leaf Forward
 block_start (Some lexeme.KeyConst) = Predict Block (Kid class.Consts ∷ Kid class.Types ∷ Kid class.Vars ∷ Kid class.Routines ∷ Kid class.Body ∷ [])
 block_start (Some lexeme.KeyType) = Predict Block (Kid class.Consts ∷ Kid class.Types ∷ Kid class.Vars ∷ Kid class.Routines ∷ Kid class.Body ∷ [])
 block_start (Some lexeme.KeyVar) = Predict Block (Kid class.Consts ∷ Kid class.Types ∷ Kid class.Vars ∷ Kid class.Routines ∷ Kid class.Body ∷ [])
+block_start (Some lexeme.KeyProcedure) = Predict Block (Kid class.Consts ∷ Kid class.Types ∷ Kid class.Vars ∷ Kid class.Routines ∷ Kid class.Body ∷ [])
+block_start (Some lexeme.KeyFunction) = Predict Block (Kid class.Consts ∷ Kid class.Types ∷ Kid class.Vars ∷ Kid class.Routines ∷ Kid class.Body ∷ [])
 block_start (Some lexeme.KeyBegin) = Predict Block (Kid class.Consts ∷ Kid class.Types ∷ Kid class.Vars ∷ Kid class.Routines ∷ Kid class.Body ∷ [])
 block_start (Some (lexeme.Hole sort.Block)) = Open (Hole sort.Block) [] []
+block_start (Some (lexeme.Hole sort.Routine)) = Predict Block (Kid class.Consts ∷ Kid class.Types ∷ Kid class.Vars ∷ Kid class.Routines ∷ Kid class.Body ∷ [])
 block_start (Some (lexeme.Hole sort.Statement)) = Predict Block (Kid class.Consts ∷ Kid class.Types ∷ Kid class.Vars ∷ Kid class.Routines ∷ Kid class.Body ∷ [])
 block_start _ = NoStart
 
@@ -99,6 +97,40 @@ vardef_start (Some (lexeme.Hole sort.VarDef)) = Open (Hole sort.VarDef) [] []
 vardef_start (Some (lexeme.Hole sort.Name)) = Predict Vardef (Kid class.Names ∷ Literal lexeme.Colon ∷ Kid class.Denoter ∷ Literal lexeme.Semicolon ∷ [])
 vardef_start _ = NoStart
 
+abbrev pub field_start : Option Lexeme → Start
+field_start (Some lexeme.Identifier) = Predict Field (Kid class.Names ∷ Literal lexeme.Colon ∷ Kid class.Denoter ∷ [])
+field_start (Some (lexeme.Hole sort.Field)) = Open (Hole sort.Field) [] []
+field_start (Some (lexeme.Hole sort.Name)) = Predict Field (Kid class.Names ∷ Literal lexeme.Colon ∷ Kid class.Denoter ∷ [])
+field_start _ = NoStart
+
+abbrev pub fields_start : Option Lexeme → Start
+fields_start (Some lexeme.KeyEnd) = NoStart
+fields_start _ = Predict Fields (Kid class.Field ∷ [])
+
+abbrev pub params_start : Option Lexeme → Start
+params_start (Some lexeme.OpenParen) = Open Params [] (Kid class.Parameter ∷ Literal lexeme.CloseParen ∷ [])
+params_start _ = Blank Params
+
+abbrev pub parameter_start : Option Lexeme → Start
+parameter_start (Some lexeme.Identifier) = Predict Valparam (Kid class.Names ∷ Literal lexeme.Colon ∷ Kid class.Name ∷ [])
+parameter_start (Some lexeme.KeyVar) = Open Varparam [] (Kid class.Names ∷ Literal lexeme.Colon ∷ Kid class.Name ∷ [])
+parameter_start (Some (lexeme.Hole sort.Parameter)) = Open (Hole sort.Parameter) [] []
+parameter_start (Some (lexeme.Hole sort.Name)) = Predict Valparam (Kid class.Names ∷ Literal lexeme.Colon ∷ Kid class.Name ∷ [])
+parameter_start _ = NoStart
+
+abbrev pub routines_start : Option Lexeme → Start
+routines_start (Some lexeme.KeyProcedure) = Predict Routines (Kid class.Routine ∷ [])
+routines_start (Some lexeme.KeyFunction) = Predict Routines (Kid class.Routine ∷ [])
+routines_start (Some (lexeme.Hole sort.Routine)) = Predict Routines (Kid class.Routine ∷ [])
+routines_start _ = Blank Routines
+
+-- a function begins as one that was announced before
+abbrev pub routine_start : Option Lexeme → Start
+routine_start (Some lexeme.KeyProcedure) = Open Procedure [] (Kid class.Name ∷ Kid class.Params ∷ Literal lexeme.Semicolon ∷ Kid class.Block ∷ Literal lexeme.Semicolon ∷ [])
+routine_start (Some lexeme.KeyFunction) = Open Funbody [] (Kid class.Name ∷ Literal lexeme.Semicolon ∷ Kid class.Block ∷ Literal lexeme.Semicolon ∷ [])
+routine_start (Some (lexeme.Hole sort.Routine)) = Open (Hole sort.Routine) [] []
+routine_start _ = NoStart
+
 abbrev pub ordinal_start : Option Lexeme → Start
 ordinal_start x =
     if same_at lexeme.OpenParen x then Open Enum [] (Kid class.Names ∷ Literal lexeme.CloseParen ∷ [])
@@ -106,12 +138,14 @@ ordinal_start x =
 
 abbrev pub structured_start : Option Lexeme → Start
 structured_start (Some lexeme.KeyArray) = Open Array [] (Literal lexeme.OpenBracket ∷ Kid class.Indexes ∷ Literal lexeme.CloseBracket ∷ Literal lexeme.KeyOf ∷ Kid class.Denoter ∷ [])
+structured_start (Some lexeme.KeyRecord) = Open Record [] (Kid class.Fields ∷ Literal lexeme.KeyEnd ∷ [])
 structured_start (Some lexeme.KeySet) = Open Setof [] (Literal lexeme.KeyOf ∷ Kid class.Ordinal ∷ [])
 structured_start (Some (lexeme.Hole sort.Denoter)) = Open (Hole sort.Denoter) [] []
 structured_start _ = NoStart
 
 abbrev pub is_structure : Option Lexeme → Bool
 is_structure (Some lexeme.KeyArray) = true
+is_structure (Some lexeme.KeyRecord) = true
 is_structure (Some lexeme.KeySet) = true
 is_structure _ = false
 
@@ -129,6 +163,7 @@ abbrev pub statement_start : Option Lexeme → Start
 statement_start (Some lexeme.Identifier) = Leaf Name
 statement_start (Some lexeme.KeyBegin) = Open Compound [] (Kid class.Stmts ∷ Literal lexeme.KeyEnd ∷ [])
 statement_start (Some lexeme.KeyIf) = Open If [] (Kid class.Expression ∷ Literal lexeme.KeyThen ∷ Kid class.Statement ∷ [])
+statement_start (Some lexeme.KeyCase) = Open Case [] (Kid class.Expression ∷ Literal lexeme.KeyOf ∷ Kid class.Arms ∷ Literal lexeme.KeyEnd ∷ [])
 statement_start (Some lexeme.KeyRepeat) = Open Repeat [] (Kid class.Stmts ∷ Literal lexeme.KeyUntil ∷ Kid class.Expression ∷ [])
 statement_start (Some lexeme.KeyWhile) = Open While [] (Kid class.Expression ∷ Literal lexeme.KeyDo ∷ Kid class.Statement ∷ [])
 statement_start (Some lexeme.KeyFor) = Open For (spelling_of lexeme.KeyTo) (Kid class.Name ∷ Literal lexeme.Becomes ∷ Kid class.Expression ∷ Literal lexeme.KeyTo ∷ Kid class.Expression ∷ Literal lexeme.KeyDo ∷ Kid class.Statement ∷ [])
@@ -137,6 +172,17 @@ statement_start (Some (lexeme.Hole sort.Statement)) = Open (Hole sort.Statement)
 statement_start (Some (lexeme.Hole sort.Expression)) = Open (Hole sort.Expression) [] []
 statement_start (Some (lexeme.Hole sort.Name)) = Open (Hole sort.Name) [] []
 statement_start _ = Blank Empty
+
+abbrev pub arm_start : Option Lexeme → Start
+arm_start (Some lexeme.Identifier) = Predict Arm (Kid class.Labels ∷ Literal lexeme.Colon ∷ Kid class.Statement ∷ [])
+arm_start (Some lexeme.Numeral) = Predict Arm (Kid class.Labels ∷ Literal lexeme.Colon ∷ Kid class.Statement ∷ [])
+arm_start (Some lexeme.Text) = Predict Arm (Kid class.Labels ∷ Literal lexeme.Colon ∷ Kid class.Statement ∷ [])
+arm_start (Some lexeme.Plus) = Predict Arm (Kid class.Labels ∷ Literal lexeme.Colon ∷ Kid class.Statement ∷ [])
+arm_start (Some lexeme.Minus) = Predict Arm (Kid class.Labels ∷ Literal lexeme.Colon ∷ Kid class.Statement ∷ [])
+arm_start (Some (lexeme.Hole sort.Arm)) = Open (Hole sort.Arm) [] []
+arm_start (Some (lexeme.Hole sort.Constant)) = Predict Arm (Kid class.Labels ∷ Literal lexeme.Colon ∷ Kid class.Statement ∷ [])
+arm_start (Some (lexeme.Hole sort.Name)) = Predict Arm (Kid class.Labels ∷ Literal lexeme.Colon ∷ Kid class.Statement ∷ [])
+arm_start _ = NoStart
 
 abbrev pub factor_start : Option Lexeme → Start
 factor_start (Some lexeme.Identifier) = Leaf Name
@@ -167,7 +213,7 @@ start class.Args x = args_start x
 start class.Consts x = consts_start x
 start class.Types x = types_start x
 start class.Vars x = vars_start x
-start class.Routines x = Blank Routines
+start class.Routines x = routines_start x
 start class.Vardef x = vardef_start x
 start class.Denoter x = denoter_start x
 start class.Body x = body_start x
@@ -180,23 +226,27 @@ start class.Simple x = simple_start x
 start class.Expression x = simple_start x
 start class.Argument x = simple_start x
 start class.Member x = simple_start x
+start class.Operand x = simple_start x
 start class.Members x = members_start x
 start class.Names x = Predict Names (Kid class.Name ∷ [])
 start class.Exprs x = Predict Exprs (Kid class.Expression ∷ [])
 start class.Accesses x = Predict Accesses (Kid class.Access ∷ [])
 start class.Stmts x = Predict Stmts (Kid class.Statement ∷ [])
+start class.Labels x = Predict Labels (Kid class.Constant ∷ [])
+start class.Arms x = Predict Arms (Kid class.Arm ∷ [])
+start class.Fields x = fields_start x
 start class.Constdef x = constdef_start x
 start class.Typedef x = typedef_start x
 start class.Structured x = structured_start x
 start class.Ordinal x = ordinal_start x
 start class.Indexes x = Predict Indexes (Kid class.Ordinal ∷ [])
-start class.Routine x = hole_start sort.Routine x
-start class.Parameter x = hole_start sort.Parameter x
-start class.Field x = hole_start sort.Field x
+start class.Field x = field_start x
+start class.Routine x = routine_start x
+start class.Params x = params_start x
+start class.Parameter x = parameter_start x
 start class.Constant x = constant_start x
 start class.Bare x = bare_start x
-start class.Arm x = hole_start sort.Arm x
-start _ x = NoStart
+start class.Arm x = arm_start x
 
 -- what becomes of a finished node where a kid of a class is awaited: it is given as that kid; or it becomes the first
 -- kid of a node, alone, or of one that goes on and takes the symbol, or that goes on without taking it
@@ -245,10 +295,12 @@ is_range _ = false
 -- whether a width, a span, a relation, a sum, a product may stand where the class is awaited
 abbrev pub takes_width : Class → Bool
 takes_width class.Argument = true
+takes_width class.Operand = true
 takes_width _ = false
 
 abbrev pub takes_span : Class → Bool
 takes_span class.Member = true
+takes_span class.Operand = true
 takes_span _ = false
 
 abbrev pub takes_relation : Class → Bool
@@ -337,6 +389,7 @@ grow_name class.Simple x = grow_factor_name x
 grow_name class.Expression x = grow_factor_name x
 grow_name class.Argument x = grow_factor_name x
 grow_name class.Member x = grow_factor_name x
+grow_name class.Operand x = grow_factor_name x
 grow_name _ x = Give
 
 abbrev pub grow : Kind → Class → Option Lexeme → Grow
@@ -370,16 +423,34 @@ abbrev pub switch : Kind → List Item → Option Lexeme → Option (Kind × Lis
 switch If [] (Some lexeme.KeyElse) = Some (Ifelse, (Kid class.Statement ∷ []))
 switch For (Literal lexeme.KeyTo ∷ m) (Some lexeme.KeyDownto) = Some (For, (Kid class.Expression ∷ Literal lexeme.KeyDo ∷ Kid class.Statement ∷ []))
 switch Stmts [] (Some lexeme.Semicolon) = Some (Stmts, (Kid class.Statement ∷ []))
+switch Arms [] (Some lexeme.Semicolon) = Some (Arms, (Kid class.Arm ∷ []))
+switch Fields [] (Some lexeme.Semicolon) = Some (Fields, (Kid class.Field ∷ []))
+switch Labels [] (Some lexeme.Comma) = Some (Labels, (Kid class.Constant ∷ []))
 switch Indexes [] (Some lexeme.Comma) = Some (Indexes, (Kid class.Ordinal ∷ []))
 switch Exprs [] (Some lexeme.Comma) = Some (Exprs, (Kid class.Expression ∷ []))
 switch Accesses [] (Some lexeme.Comma) = Some (Accesses, (Kid class.Access ∷ []))
 switch Members [] (Some lexeme.Comma) = Some (Members, (Kid class.Member ∷ []))
 switch Names [] (Some lexeme.Comma) = Some (Names, (Kid class.Name ∷ []))
 switch Args (Literal lexeme.CloseParen ∷ []) (Some lexeme.Comma) = Some (Args, (Kid class.Argument ∷ Literal lexeme.CloseParen ∷ []))
+switch Params (Literal lexeme.CloseParen ∷ []) (Some lexeme.Semicolon) = Some (Params, (Kid class.Parameter ∷ Literal lexeme.CloseParen ∷ []))
 switch Heads (Literal lexeme.CloseParen ∷ []) (Some lexeme.Comma) = Some (Heads, (Kid class.Name ∷ Literal lexeme.CloseParen ∷ []))
 switch _ _ _ = None
 
--- the word of a node that goes on so: a loop that was taken for one upwards goes downwards
+-- as what a node goes on, and with which items, at a symbol at which its next item can't come; the symbol is left
+abbrev pub recast : Kind → List Item → Option Lexeme → Option (Kind × List Item)
+recast Funbody (Literal lexeme.Semicolon ∷ Kid class.Block ∷ Literal lexeme.Semicolon ∷ []) (Some lexeme.OpenParen) = Some (Function, (Kid class.Params ∷ Literal lexeme.Colon ∷ Kid class.Name ∷ Literal lexeme.Semicolon ∷ Kid class.Block ∷ Literal lexeme.Semicolon ∷ []))
+recast Funbody (Literal lexeme.Semicolon ∷ Kid class.Block ∷ Literal lexeme.Semicolon ∷ []) (Some lexeme.Colon) = Some (Function, (Kid class.Params ∷ Literal lexeme.Colon ∷ Kid class.Name ∷ Literal lexeme.Semicolon ∷ Kid class.Block ∷ Literal lexeme.Semicolon ∷ []))
+recast Record (Kid class.Fields ∷ Literal lexeme.KeyEnd ∷ []) (Some lexeme.KeyEnd) = Some (Record0, (Literal lexeme.KeyEnd ∷ []))
+recast _ _ _ = None
+
+-- whether a list of the first kind that awaits a further element, where none can come, ends in front of its last
+-- separator, which is then the last `;` of the node of the second kind that awaits the list
+abbrev pub closes : Kind → List Item → Kind → List Item → Bool
+closes Arms (Kid class.Arm ∷ []) Case (Kid class.Arms ∷ Literal lexeme.KeyEnd ∷ []) = true
+closes Fields (Kid class.Field ∷ []) Record (Kid class.Fields ∷ Literal lexeme.KeyEnd ∷ []) = true
+closes _ _ _ _ = false
+
+-- the word of a node that goes on at a symbol that it takes: a loop that was taken for one upwards goes downwards
 abbrev pub turned_word : Kind → List ℕ → List ℕ
 turned_word For w = spelling_of lexeme.KeyDownto
 turned_word _ w = w
@@ -395,4 +466,7 @@ again Types (Some (lexeme.Hole sort.Name)) = Some class.Typedef
 again Vars (Some lexeme.Identifier) = Some class.Vardef
 again Vars (Some (lexeme.Hole sort.VarDef)) = Some class.Vardef
 again Vars (Some (lexeme.Hole sort.Name)) = Some class.Vardef
+again Routines (Some lexeme.KeyProcedure) = Some class.Routine
+again Routines (Some lexeme.KeyFunction) = Some class.Routine
+again Routines (Some (lexeme.Hole sort.Routine)) = Some class.Routine
 again _ _ = None

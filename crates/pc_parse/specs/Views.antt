@@ -1,5 +1,5 @@
 -- Values of the code, as plain values.
-use Rattle.std.specs.Prelude.{List, [], ◌∷◌, ◌++◌, Option, Some, None, IfSome}
+use Rattle.std.specs.Prelude.{◌≡◌, true, List, [], ◌∷◌, ◌++◌, Option, Some, None, IfSome}
 use Rattle.std.specs.Borrow.{Bor}
 use Rattle.pc_syntax.specs.declared.kind.Kind.{Kind}
 use Rattle.pc_syntax.specs.declared.class.Class.{Class}
@@ -17,8 +17,8 @@ use Rattle.pc_parse.specs.declared.machine.Position.{Position}
 use Rattle.pc_parse.specs.declared.machine.Position.TheVariants as position
 use Rattle.pc_parse.specs.declared.machine.Outcome.{Outcome}
 use Rattle.pc_parse.specs.declared.machine.Outcome.TheVariants as outcome
-use Rattle.pc_parse.specs.Tables.{Start, Leaf, Open, Predict, Blank, NoStart, Grow, Give, Wrap, Shift, Enter}
-use Rattle.pc_parse.specs.Rows.{Row, made}
+use Rattle.pc_parse.specs.Tables.{Start, Leaf, Open, Predict, Blank, NoStart, Grow, Give, Wrap, Shift, Enter, closes}
+use Rattle.pc_parse.specs.Rows.{Row, has_kids, made}
 use Rattle.pc_parse.specs.Measured as measured
 use Rattle.std.specs.declared.vec.Vec.{Vec}
 
@@ -77,8 +77,12 @@ outcome_view (outcome.Took p) fs = measured.Take (state_view p fs)
 outcome_view (outcome.Accepted c) fs = measured.End c
 outcome_view outcome.Refused fs = measured.Stuck
 
--- the node that has ended, where its kids are kept, is a tree that may be made
+-- a node, where its kids are kept, is a tree that may be made
+abbrev pub IsWhole : code_node.Node → Type 0
+IsWhole n = IfSome (trees_view n.kids.trees) (λ ts. IsProper (node n.kind n.word.now [] ts))
+
+-- the node that has ended, or that may end in front of its last separator, is one that may be made
 abbrev pub IsBuildable : Position → Type 0
 IsBuildable position.Opening = Unit {0}
-IsBuildable (position.Within f) = Unit {0}
-IsBuildable (position.Ended n) = IfSome (trees_view n.kids.trees) (λ ts. IsProper (node n.kind n.word.now [] ts))
+IsBuildable (position.Within f) = (k : Kind) (m : List Item) → closes f.node.kind f.items.now k m ≡ true → has_kids (row_view f.node.kids) ≡ true → IsWhole f.node
+IsBuildable (position.Ended n) = IsWhole n

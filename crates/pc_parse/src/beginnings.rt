@@ -1,7 +1,7 @@
 //! How a kid of a class begins at a symbol.
 
 ghost use Rattle.std.specs.Prelude.{◌≡◌};
-ghost use Rattle.pc_parse.specs.Tables.{start, hole_start, name_start, access_start, program_start, block_start, heads_start, args_start, consts_start, constdef_start, bare_start, constant_start, types_start, typedef_start, ordinal_start, structured_start, is_structure, vars_start, vardef_start, denoter_start, body_start, statement_start, factor_start, simple_start, members_start};
+ghost use Rattle.pc_parse.specs.Tables.{start, name_start, access_start, program_start, block_start, heads_start, args_start, consts_start, constdef_start, bare_start, constant_start, types_start, typedef_start, field_start, fields_start, ordinal_start, structured_start, is_structure, vars_start, vardef_start, params_start, parameter_start, routines_start, routine_start, denoter_start, body_start, statement_start, arm_start, factor_start, simple_start, members_start};
 ghost use Rattle.pc_parse.specs.Views.{start_view};
 
 use crate::lexemes::comes_next;
@@ -30,7 +30,7 @@ pub fn kid_beginning(class: Class, next: Option<Lexeme>) -> Beginning
         Class::Consts => consts_beginning(next),
         Class::Types => types_beginning(next),
         Class::Vars => vars_beginning(next),
-        Class::Routines => Beginning::Blank(Kind::Routines),
+        Class::Routines => routines_beginning(next),
         Class::Vardef => vardef_beginning(next),
         Class::Denoter => denoter_beginning(next),
         Class::Body => body_beginning(next),
@@ -38,37 +38,28 @@ pub fn kid_beginning(class: Class, next: Option<Lexeme>) -> Beginning
         Class::Name => name_beginning(next),
         Class::Access => access_beginning(next),
         Class::Factor | Class::Term => factor_beginning(next),
-        Class::Simple | Class::Expression | Class::Argument | Class::Member => {
-            simple_beginning(next)
-        }
+        Class::Simple | Class::Expression | Class::Argument | Class::Member | Class::Operand =>
+            simple_beginning(next),
         Class::Members => members_beginning(next),
         Class::Names => Beginning::Predict(Kind::Names, &[Item::Kid(Class::Name)]),
         Class::Exprs => Beginning::Predict(Kind::Exprs, &[Item::Kid(Class::Expression)]),
         Class::Accesses => { Beginning::Predict(Kind::Accesses, &[Item::Kid(Class::Access)]) }
         Class::Stmts => Beginning::Predict(Kind::Stmts, &[Item::Kid(Class::Statement)]),
+        Class::Labels => Beginning::Predict(Kind::Labels, &[Item::Kid(Class::Constant)]),
+        Class::Arms => Beginning::Predict(Kind::Arms, &[Item::Kid(Class::Arm)]),
+        Class::Fields => fields_beginning(next),
         Class::Constdef => constdef_beginning(next),
         Class::Typedef => typedef_beginning(next),
         Class::Structured => structured_beginning(next),
         Class::Ordinal => ordinal_beginning(next),
         Class::Indexes => Beginning::Predict(Kind::Indexes, &[Item::Kid(Class::Ordinal)]),
-        Class::Routine => hole_beginning(Sort::Routine, next),
-        Class::Parameter => hole_beginning(Sort::Parameter, next),
-        Class::Field => hole_beginning(Sort::Field, next),
+        Class::Routine => routine_beginning(next),
+        Class::Params => params_beginning(next),
+        Class::Parameter => parameter_beginning(next),
+        Class::Field => field_beginning(next),
         Class::Constant => constant_beginning(next),
         Class::Bare => bare_beginning(next),
-        Class::Arm => hole_beginning(Sort::Arm, next),
-        _ => Beginning::Nothing,
-    }
-}
-
-/// The hole of the sort.
-fn hole_beginning(sort: Sort, next: Option<Lexeme>) -> Beginning
-    ensures { start_view result ≡ hole_start sort next }
-{
-    if comes_next(Lexeme::Hole(sort), next) {
-        Beginning::Open(Kind::Hole(sort), b"", &[])
-    } else {
-        Beginning::Nothing
+        Class::Arm => arm_beginning(next),
     }
 }
 
@@ -128,8 +119,11 @@ fn block_beginning(next: Option<Lexeme>) -> Beginning
         Some(Lexeme::KeyConst) => Beginning::Predict(Kind::Block, BLOCK),
         Some(Lexeme::KeyType) => Beginning::Predict(Kind::Block, BLOCK),
         Some(Lexeme::KeyVar) => Beginning::Predict(Kind::Block, BLOCK),
+        Some(Lexeme::KeyProcedure) => Beginning::Predict(Kind::Block, BLOCK),
+        Some(Lexeme::KeyFunction) => Beginning::Predict(Kind::Block, BLOCK),
         Some(Lexeme::KeyBegin) => Beginning::Predict(Kind::Block, BLOCK),
         Some(Lexeme::Hole(Sort::Block)) => Beginning::Open(Kind::Hole(Sort::Block), b"", &[]),
+        Some(Lexeme::Hole(Sort::Routine)) => Beginning::Predict(Kind::Block, BLOCK),
         Some(Lexeme::Hole(Sort::Statement)) => Beginning::Predict(Kind::Block, BLOCK),
         _ => Beginning::Nothing,
     }
@@ -259,6 +253,110 @@ fn vardef_beginning(next: Option<Lexeme>) -> Beginning
     }
 }
 
+fn params_beginning(next: Option<Lexeme>) -> Beginning
+    ensures { start_view result ≡ params_start next }
+{
+    match next {
+        Some(Lexeme::OpenParen) => Beginning::Open(
+            Kind::Params,
+            b"",
+            &[
+                Item::Kid(Class::Parameter),
+                Item::Literal(Lexeme::CloseParen),
+            ],
+        ),
+        _ => Beginning::Blank(Kind::Params),
+    }
+}
+
+const PARAMETER: &[Item] = &[
+    Item::Kid(Class::Names),
+    Item::Literal(Lexeme::Colon),
+    Item::Kid(Class::Name),
+];
+
+fn parameter_beginning(next: Option<Lexeme>) -> Beginning
+    ensures { start_view result ≡ parameter_start next }
+{
+    match next {
+        Some(Lexeme::Identifier) => Beginning::Predict(Kind::Valparam, PARAMETER),
+        Some(Lexeme::KeyVar) => Beginning::Open(Kind::Varparam, b"", PARAMETER),
+        Some(Lexeme::Hole(Sort::Parameter)) => Beginning::Open(
+            Kind::Hole(Sort::Parameter),
+            b"",
+            &[],
+        ),
+        Some(Lexeme::Hole(Sort::Name)) => Beginning::Predict(Kind::Valparam, PARAMETER),
+        _ => Beginning::Nothing,
+    }
+}
+
+const ROUTINES: &[Item] = &[Item::Kid(Class::Routine)];
+
+fn routines_beginning(next: Option<Lexeme>) -> Beginning
+    ensures { start_view result ≡ routines_start next }
+{
+    match next {
+        Some(Lexeme::KeyProcedure) => Beginning::Predict(Kind::Routines, ROUTINES),
+        Some(Lexeme::KeyFunction) => Beginning::Predict(Kind::Routines, ROUTINES),
+        Some(Lexeme::Hole(Sort::Routine)) => Beginning::Predict(Kind::Routines, ROUTINES),
+        _ => Beginning::Blank(Kind::Routines),
+    }
+}
+
+const PROCEDURE: &[Item] = &[
+    Item::Kid(Class::Name),
+    Item::Kid(Class::Params),
+    Item::Literal(Lexeme::Semicolon),
+    Item::Kid(Class::Block),
+    Item::Literal(Lexeme::Semicolon),
+];
+
+/// A function without parameters and result, as one that was announced before.
+const FUNBODY: &[Item] = &[
+    Item::Kid(Class::Name),
+    Item::Literal(Lexeme::Semicolon),
+    Item::Kid(Class::Block),
+    Item::Literal(Lexeme::Semicolon),
+];
+
+fn routine_beginning(next: Option<Lexeme>) -> Beginning
+    ensures { start_view result ≡ routine_start next }
+{
+    match next {
+        Some(Lexeme::KeyProcedure) => Beginning::Open(Kind::Procedure, b"", PROCEDURE),
+        Some(Lexeme::KeyFunction) => Beginning::Open(Kind::Funbody, b"", FUNBODY),
+        Some(Lexeme::Hole(Sort::Routine)) => Beginning::Open(Kind::Hole(Sort::Routine), b"", &[]),
+        _ => Beginning::Nothing,
+    }
+}
+
+const FIELD: &[Item] = &[
+    Item::Kid(Class::Names),
+    Item::Literal(Lexeme::Colon),
+    Item::Kid(Class::Denoter),
+];
+
+fn field_beginning(next: Option<Lexeme>) -> Beginning
+    ensures { start_view result ≡ field_start next }
+{
+    match next {
+        Some(Lexeme::Identifier) => Beginning::Predict(Kind::Field, FIELD),
+        Some(Lexeme::Hole(Sort::Field)) => Beginning::Open(Kind::Hole(Sort::Field), b"", &[]),
+        Some(Lexeme::Hole(Sort::Name)) => Beginning::Predict(Kind::Field, FIELD),
+        _ => Beginning::Nothing,
+    }
+}
+
+fn fields_beginning(next: Option<Lexeme>) -> Beginning
+    ensures { start_view result ≡ fields_start next }
+{
+    match next {
+        Some(Lexeme::KeyEnd) => Beginning::Nothing,
+        _ => Beginning::Predict(Kind::Fields, &[Item::Kid(Class::Field)]),
+    }
+}
+
 fn ordinal_beginning(next: Option<Lexeme>) -> Beginning
     ensures { start_view result ≡ ordinal_start next }
 {
@@ -288,6 +386,11 @@ fn structured_beginning(next: Option<Lexeme>) -> Beginning
 {
     match next {
         Some(Lexeme::KeyArray) => Beginning::Open(Kind::Array, b"", ARRAY),
+        Some(Lexeme::KeyRecord) => Beginning::Open(
+            Kind::Record,
+            b"",
+            &[Item::Kid(Class::Fields), Item::Literal(Lexeme::KeyEnd)],
+        ),
         Some(Lexeme::KeySet) => Beginning::Open(
             Kind::Setof,
             b"",
@@ -303,6 +406,7 @@ fn is_structure(next: Option<Lexeme>) -> bool
 {
     match next {
         Some(Lexeme::KeyArray) => true,
+        Some(Lexeme::KeyRecord) => true,
         Some(Lexeme::KeySet) => true,
         _ => false,
     }
@@ -337,6 +441,13 @@ fn body_beginning(next: Option<Lexeme>) -> Beginning
         _ => Beginning::Nothing,
     }
 }
+
+const CASE: &[Item] = &[
+    Item::Kid(Class::Expression),
+    Item::Literal(Lexeme::KeyOf),
+    Item::Kid(Class::Arms),
+    Item::Literal(Lexeme::KeyEnd),
+];
 
 const REPEAT: &[Item] = &[
     Item::Kid(Class::Stmts),
@@ -384,6 +495,7 @@ fn statement_beginning(next: Option<Lexeme>) -> Beginning
                 Item::Kid(Class::Statement),
             ],
         ),
+        Some(Lexeme::KeyCase) => Beginning::Open(Kind::Case, b"", CASE),
         Some(Lexeme::KeyRepeat) => Beginning::Open(Kind::Repeat, b"", REPEAT),
         Some(Lexeme::KeyFor) => Beginning::Open(Kind::For, b"to", FOR),
         Some(Lexeme::KeyWith) => Beginning::Open(Kind::With, b"", WITH),
@@ -399,6 +511,28 @@ fn statement_beginning(next: Option<Lexeme>) -> Beginning
         ),
         Some(Lexeme::Hole(Sort::Name)) => Beginning::Open(Kind::Hole(Sort::Name), b"", &[]),
         _ => Beginning::Blank(Kind::Empty),
+    }
+}
+
+const ARM: &[Item] = &[
+    Item::Kid(Class::Labels),
+    Item::Literal(Lexeme::Colon),
+    Item::Kid(Class::Statement),
+];
+
+fn arm_beginning(next: Option<Lexeme>) -> Beginning
+    ensures { start_view result ≡ arm_start next }
+{
+    match next {
+        Some(Lexeme::Identifier) => Beginning::Predict(Kind::Arm, ARM),
+        Some(Lexeme::Numeral) => Beginning::Predict(Kind::Arm, ARM),
+        Some(Lexeme::Text) => Beginning::Predict(Kind::Arm, ARM),
+        Some(Lexeme::Plus) => Beginning::Predict(Kind::Arm, ARM),
+        Some(Lexeme::Minus) => Beginning::Predict(Kind::Arm, ARM),
+        Some(Lexeme::Hole(Sort::Arm)) => Beginning::Open(Kind::Hole(Sort::Arm), b"", &[]),
+        Some(Lexeme::Hole(Sort::Constant)) => Beginning::Predict(Kind::Arm, ARM),
+        Some(Lexeme::Hole(Sort::Name)) => Beginning::Predict(Kind::Arm, ARM),
+        _ => Beginning::Nothing,
     }
 }
 

@@ -5,11 +5,8 @@ use thiserror::Error;
 /// Why there is no tree. Want of memory may come at any time, and else each has one cause.
 #[derive(Clone, Copy, Debug, PartialEq, Eq, Error)]
 pub enum ParseError {
-    /// A comment is there, or a symbol of a part of the language that is not read so far.
-    #[error("not read yet")]
-    NotYet,
-    /// No tree has these symbols. The number is that of the symbol, from 1, that was refused; it is
-    /// one more than there are symbols where the end was.
+    /// No tree has these symbols. The number is that of the first symbol, from 1, with which no text
+    /// of the sort begins; it is one more than there are symbols where they all begin one.
     #[error("symbol {0} does not fit")]
     NotFit(u64),
     /// The tree has more than 256 levels, and it has so many.

@@ -58,7 +58,8 @@ fn name_growth(class: Class, next: Option<Lexeme>) -> Growth
         | Class::Simple
         | Class::Expression
         | Class::Argument
-        | Class::Member => factor_name_growth(next),
+        | Class::Member
+        | Class::Operand => factor_name_growth(next),
         _ => Growth::Give,
     }
 }
@@ -199,19 +200,22 @@ fn relation_growth(class: Class, next: Option<Lexeme>) -> Growth
 fn takes_width(class: Class) -> bool
     ensures { result ≡ takes_width class }
 {
-    matches!(class, Class::Argument)
+    matches!(class, Class::Argument | Class::Operand)
 }
 
 fn takes_span(class: Class) -> bool
     ensures { result ≡ takes_span class }
 {
-    matches!(class, Class::Member)
+    matches!(class, Class::Member | Class::Operand)
 }
 
 fn takes_relation(class: Class) -> bool
     ensures { result ≡ takes_relation class }
 {
-    matches!(class, Class::Expression | Class::Argument | Class::Member)
+    matches!(
+        class,
+        Class::Expression | Class::Argument | Class::Member | Class::Operand
+    )
 }
 
 fn takes_sum(class: Class) -> bool
@@ -219,7 +223,7 @@ fn takes_sum(class: Class) -> bool
 {
     matches!(
         class,
-        Class::Simple | Class::Expression | Class::Argument | Class::Member
+        Class::Simple | Class::Expression | Class::Argument | Class::Member | Class::Operand
     )
 }
 
@@ -228,7 +232,12 @@ fn takes_product(class: Class) -> bool
 {
     matches!(
         class,
-        Class::Term | Class::Simple | Class::Expression | Class::Argument | Class::Member
+        Class::Term
+            | Class::Simple
+            | Class::Expression
+            | Class::Argument
+            | Class::Member
+            | Class::Operand
     )
 }
 

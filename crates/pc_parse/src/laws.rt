@@ -1,9 +1,8 @@
 //! Laws of the definitions.
 
-ghost use Rattle.pc_parse.specs.Laws.{OneTree, ReadIsWellFormed};
+ghost use Rattle.pc_parse.specs.Laws.{OneTree};
 
-/// Symbols have at most one tree of a sort, and it is well formed by the whole grammar.
+/// Symbols have at most one tree of a sort, notes aside.
 pub fn one_tree()
-    ensures unique { OneTree }
-    ensures formed { ReadIsWellFormed }
+    ensures { OneTree }
 {}

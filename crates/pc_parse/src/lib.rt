@@ -12,6 +12,10 @@ mod laws;
 mod leaves;
 mod lexemes;
 mod machine;
+#[cfg(test)]
+mod note_tests;
+mod notes;
+mod quiet;
 mod reading;
 mod rows;
 #[cfg(test)]
@@ -20,4 +24,4 @@ mod turns;
 
 pub use error::ParseError;
 pub use laws::one_tree;
-pub use reading::{Reading, read};
+pub use reading::{Reading, depth_of, read};

@@ -1,18 +1,19 @@
 //! The machine that reads symbols, a small step at a time.
 
-ghost use Rattle.std.specs.Prelude.{◌≡◌, true, IfOk, List, [], ◌∷◌};
+ghost use Rattle.std.specs.Prelude.{◌≡◌, true, ◌&&◌, IfOk, List, [], ◌∷◌};
+ghost use Rattle.pc_syntax.specs.Spellings.{spelling_of};
 ghost use Rattle.pc_parse.specs.Machine.{leaf_word, awaited};
 ghost use Rattle.pc_parse.specs.Measured as measured;
-ghost use Rattle.pc_parse.specs.Tables.{turned_word};
+ghost use Rattle.pc_parse.specs.Tables.{recast, closes, turned_word};
 ghost use Rattle.pc_parse.specs.Views.{start_view, grow_view, switch_view, awaited_view, first_view, frame_view, stack, state_view, outcome_view, row_view, IsBuildable};
-ghost use Rattle.pc_parse.specs.Rows.{made, added, no_kids};
+ghost use Rattle.pc_parse.specs.Rows.{has_kids, made, added, no_kids};
 
 use crate::beginnings::{Beginning, kid_beginning};
 use crate::growths::{Growth, node_growth};
 use crate::leaves::Leaves;
 use crate::lexemes::comes_next;
 use crate::rows::{Cut, Node, Row};
-use crate::turns::{next_element, turn, turned_word};
+use crate::turns::{closes, next_element, recast, turn, turned_word};
 use pc_syntax::{Class, Item, Kind, Lexeme, is_forward};
 use std::alloc::{AllocError, Global};
 
@@ -59,7 +60,7 @@ pub fn step<'a>(
             below.clear();
             Ok(begin(alloc, kid_beginning(root, next), word))
         }
-        Position::Within(frame) => step_within(alloc, frame, below, next, word),
+        Position::Within(frame) => step_within(alloc, frame, below, next, word, leaves),
         Position::Ended(node) => step_ended(alloc, root, node, below, next, leaves),
     }
 }
@@ -107,7 +108,9 @@ fn step_within<'a>(
     below: &mut Vec<Frame<'a>>,
     next: Option<Lexeme>,
     word: &'a [u8],
+    leaves: &mut Leaves,
 ) -> Result<Outcome<'a>, AllocError>
+    requires { IsBuildable (Position.Within frame) }
     ensures { IfOk result (λ o. outcome_view o (stack below.new.items)
         ≡ measured.at_items frame.entry.items.now (frame_view frame.entry) (stack below.old.items) next word.now) }
 {
@@ -122,15 +125,96 @@ fn step_within<'a>(
             }
             Ok(match turn(frame.node.kind, frame.items, next) {
                 Some((kind, items)) => turned(frame.node, kind, items),
-                None => Outcome::Refused,
+                None => match recast(frame.node.kind, frame.items, next) {
+                    Some((kind, items)) => recasted(frame.node, kind, items),
+                    None => Outcome::Refused,
+                },
             })
         }
         Some((Item::Word(_), _)) => Ok(Outcome::Refused),
-        Some((Item::Kid(class), _)) => {
-            below.push(frame)?;
-            Ok(begin(alloc, kid_beginning(class, next), word))
-        }
+        Some((Item::Kid(class), _)) => match kid_beginning(class, next) {
+            Beginning::Nothing => step_aside(alloc, frame, below, next, leaves),
+            beginning => {
+                below.push(frame)?;
+                Ok(begin(alloc, beginning, word))
+            }
+        },
     }
+}
+
+/// A step where the awaited kid can't come: the node goes on as another, or it is a list that ends.
+fn step_aside<'a>(
+    alloc: Global,
+    frame: Frame<'a>,
+    below: &mut Vec<Frame<'a>>,
+    next: Option<Lexeme>,
+    leaves: &mut Leaves,
+) -> Result<Outcome<'a>, AllocError>
+    requires { IsBuildable (Position.Within frame) }
+    ensures { IfOk result (λ o. outcome_view o (stack below.new.items)
+        ≡ measured.on_recast (recast frame.entry.node.kind frame.entry.items.now next) (measured.at_close frame.entry.items.now (frame_view frame.entry) (stack below.old.items)) (frame_view frame.entry) (stack below.old.items)) }
+{
+    match recast(frame.node.kind, frame.items, next) {
+        Some((kind, items)) => Ok(recasted(frame.node, kind, items)),
+        None => close(alloc, frame, below, leaves),
+    }
+}
+
+/// A node goes on as another, and leaves the symbol.
+fn recasted<'a>(node: Node<'a>, kind: Kind, items: &'static [Item]) -> Outcome<'a>
+    ensures { (fs : List measured.Frame) → outcome_view result fs ≡ measured.Stay (measured.Reading (measured.frame kind node.entry.word.now (row_view node.entry.kids) items.now) fs) }
+{
+    Outcome::Moved(Position::Within(Frame {
+        node: Node {
+            kind,
+            word: node.word,
+            kids: node.kids,
+        },
+        items,
+    }))
+}
+
+/// A list ends in front of its last separator: the node below goes on past its last `;`.
+#[tactic(auto, using(crate::proofs::Stacks::stack_push))]
+fn close<'a>(
+    alloc: Global,
+    frame: Frame<'a>,
+    below: &mut Vec<Frame<'a>>,
+    leaves: &mut Leaves,
+) -> Result<Outcome<'a>, AllocError>
+    requires { IsBuildable (Position.Within frame) }
+    ensures { IfOk result (λ o. outcome_view o (stack below.new.items)
+        ≡ measured.at_close frame.entry.items.now (frame_view frame.entry) (stack below.old.items)) }
+{
+    let Some(outer) = below.pop() else {
+        return Ok(Outcome::Refused);
+    };
+    if !may_close(&frame, &outer) {
+        return Ok(Outcome::Refused);
+    }
+    Ok(past_semicolon(outer.node, frame.node.cut(alloc, leaves)?)?)
+}
+
+/// Whether the list ends in front of its last separator within the node.
+fn may_close(frame: &Frame, outer: &Frame) -> bool
+    ensures { result ≡ has_kids (row_view frame.now.node.kids) && closes frame.now.node.kind frame.now.items.now outer.now.node.kind outer.now.items.now }
+{
+    frame.node.kids.has_kids() && closes(frame.node.kind, frame.items, outer.node.kind, outer.items)
+}
+
+/// A node past its last `;`, with the list that stands in front of that.
+fn past_semicolon<'a>(node: Node<'a>, list: Cut) -> Result<Outcome<'a>, AllocError>
+    ensures { IfOk result (λ o. (fs : List measured.Frame) → outcome_view o fs
+        ≡ measured.Stay (measured.Reading (measured.frame node.entry.kind (spelling_of Lexeme.Semicolon) (added (row_view node.entry.kids) list) (Item.Literal Lexeme.KeyEnd ∷ [])) fs)) }
+{
+    Ok(Outcome::Moved(Position::Within(Frame {
+        node: Node {
+            kind: node.kind,
+            word: b";",
+            kids: node.kids.with(list)?,
+        },
+        items: &[Item::Literal(Lexeme::KeyEnd)],
+    })))
 }
 
 /// The first of the items, and the others.
@@ -203,6 +287,7 @@ fn element_items(class: Class) -> &'static [Item]
         Class::Arm => &[Item::Kid(Class::Arm)],
         Class::Argument => &[Item::Kid(Class::Argument)],
         Class::Member => &[Item::Kid(Class::Member)],
+        Class::Operand => &[Item::Kid(Class::Operand)],
         Class::Expression => &[Item::Kid(Class::Expression)],
         Class::Simple => &[Item::Kid(Class::Simple)],
         Class::Term => &[Item::Kid(Class::Term)],

@@ -1,23 +1,27 @@
 //! Reading a tree from the symbols of a text.
 
-ghost use Rattle.std.specs.Prelude.{◌≡◌, ◌+◌, ◌≤◌, ◌&&◌, IfOk, length, drop};
+ghost use Rattle.std.specs.Prelude.{◌≡◌, ◌+◌, ◌<◌, ◌≤◌, IfOk, length, drop};
 ghost use Rattle.pc_syntax.specs.Plain.{Plain};
-ghost use Rattle.pc_lex.specs.Views.{IsLexed, plain_symbols, syms, lexeme_of};
+ghost use Rattle.pc_lex.specs.Views.{IsLexed, plain_symbols, syms};
+ghost use Rattle.pc_layout.specs.NotedLaws.{IsBare};
 ghost use Rattle.pc_parse.specs.Proper.{Proper};
 ghost use Rattle.pc_parse.specs.Lookahead.{look, word_at};
 ghost use Rattle.pc_parse.specs.Reading.{class_of};
-ghost use Rattle.pc_parse.specs.Answers.{Answered, let_through, is_read_so_far, no_notes, tree_of};
-ghost use Rattle.pc_parse.specs.Ends.{Ends, Tells};
+ghost use Rattle.pc_parse.specs.Answers.{Answered, Deepens};
+ghost use Rattle.pc_parse.specs.Ends.{Ends, Tells, IsNoted};
+ghost use Rattle.pc_parse.specs.Placing.{breadth};
 ghost use Rattle.pc_parse.specs.Rows as rows;
 
 use crate::error::ParseError;
 use crate::leaves::Leaves;
 use crate::machine::{Frame, Outcome, Position, step};
+use crate::notes::{comments_in, place_notes};
 use crate::rows::Cut;
-use pc_lex::{Lexed, Span, Symbol, SymbolKind};
+use pc_lex::{Lexed, Symbol, SymbolKind};
 use pc_syntax::{Class, Lexeme, Sort, Steps, Tree};
-use std::alloc::Global;
-use std::sync::ledger::Ledger;
+use std::alloc::{AllocError, Global};
+use std::marker::Brand;
+use std::sync::ledger::{Blank, Ledger};
 
 /// A text that was read: its tree, and how many of its comments are not kept.
 #[derive(Drop)]
@@ -26,10 +30,10 @@ pub struct Reading {
     pub dropped: u64,
 }
 
-/// The one tree of the sort that has the symbols of the text. `NotYet` exactly where a comment is
-/// there or a symbol that is not read so far; else `NotFit` exactly where no tree has the symbols,
-/// and `TooDeep` or `TooLarge` where the tree has more than 256 levels or too many nodes. It takes
-/// at most one step of work for each symbol.
+/// The one tree of the sort that has the symbols of the text, and of their comments those that its nodes bear. `NotFit`
+/// exactly where no tree has the symbols, with the least number of them that begin no text of the sort; `TooDeep` or
+/// `TooLarge` where the tree has more than 256 levels or too many nodes. It takes at most one step of work for each
+/// symbol.
 pub fn read<L: Ledger>(
     alloc: Global,
     sort: Sort,
@@ -37,100 +41,71 @@ pub fn read<L: Ledger>(
     work: &mut Steps<L>,
 ) -> Result<Reading, ParseError>
     requires { IsLexed lexed.now }
-    ensures answered { Answered (class_of sort) (plain_symbols lexed.now.symbols.items) lexed.now.tail.items (tree_of result) }
-    ensures kept { IfOk result (λ r. r.dropped ≡ 0) }
+    ensures answered { Answered (class_of sort) lexed.now.text.now (plain_symbols lexed.now.symbols.items) lexed.now.tail.items result }
     ensures work { work.new ≤ work.old + length lexed.now.symbols.items }
 {
-    if !are_let_through(&lexed.symbols, &lexed.tail) {
-        return Err(ParseError::NotYet);
-    }
     let cut = run(alloc, sort, &lexed.symbols, work)?;
-    let tree = tell(cut)?;
-    Ok(Reading { tree, dropped: 0 })
+    let tree = match tell(cut) {
+        Ok(tree) => tree,
+        Err(error) => return Err(error),
+    };
+    let Ok(reading) = with_notes(alloc, tree, lexed) else {
+        return Err(ParseError::NoMemory);
+    };
+    Ok(reading)
 }
 
-/// Whether every symbol is one of those that are read so far, and no comment is there.
-fn are_let_through(symbols: &[Symbol], tail: &[Span]) -> bool
-    ensures { result ≡ let_through (plain_symbols symbols.now) tail.now }
+/// The tree with its notes, and the number of comments that it doesn't keep.
+fn with_notes(alloc: Global, tree: Tree, lexed: &Lexed) -> Result<Reading, AllocError>
+    requires lexed { IsLexed lexed.now }
+    requires bare { IsBare tree }
+    requires symbols { breadth tree ≡ length lexed.now.symbols.items }
+    ensures { IfOk result (IsNoted tree lexed.now) }
 {
-    for symbol in symbols {
-        if !is_let_through(symbol) {
-            return false;
-        }
+    let comments = comments_in(lexed);
+    if comments == lexed.tail.len() as u64 {
+        return Ok(Reading {
+            tree,
+            dropped: comments,
+        });
     }
-    has_no_notes(tail)
+    let _ = tree.depth();
+    let placed = place_notes(alloc, &tree, lexed, 0)?;
+    let dropped = comments - placed.count;
+    Ok(Reading {
+        tree: placed.tree.unwrap_or(tree),
+        dropped,
+    })
 }
 
-fn is_let_through(symbol: &Symbol) -> bool
-    ensures { result ≡ is_read_so_far (lexeme_of symbol.now.kind) && no_notes symbol.now.notes.items }
+/// How many levels the one tree of the sort has that the text writes, whatever its depth and size; none where no tree has
+/// the symbols. A number over the last one of its type is that.
+pub fn depth_of(alloc: Global, sort: Sort, lexed: &Lexed) -> Result<Option<u32>, AllocError>
+    requires { IsLexed lexed.now }
+    ensures { IfOk result (Deepens (class_of sort) lexed.now.text.now (plain_symbols lexed.now.symbols.items)) }
 {
-    is_read_so_far(symbol.lexeme()) && has_no_notes(&symbol.notes)
-}
-
-fn has_no_notes(notes: &[Span]) -> bool
-    ensures { result ≡ no_notes notes.now }
-{
-    notes.is_empty()
-}
-
-fn is_read_so_far(lexeme: Lexeme) -> bool
-    ensures { result ≡ is_read_so_far lexeme }
-{
-    match lexeme {
-        Lexeme::KeyAnd
-        | Lexeme::KeyBegin
-        | Lexeme::KeyDiv
-        | Lexeme::KeyDo
-        | Lexeme::KeyElse
-        | Lexeme::KeyEnd
-        | Lexeme::KeyIf
-        | Lexeme::KeyIn
-        | Lexeme::KeyMod
-        | Lexeme::KeyOr
-        | Lexeme::KeyProgram
-        | Lexeme::KeyThen
-        | Lexeme::KeyVar
-        | Lexeme::KeyWhile
-        | Lexeme::Plus
-        | Lexeme::Minus
-        | Lexeme::Star
-        | Lexeme::Equal
-        | Lexeme::Less
-        | Lexeme::Greater
-        | Lexeme::OpenBracket
-        | Lexeme::CloseBracket
-        | Lexeme::Dot
-        | Lexeme::Comma
-        | Lexeme::Colon
-        | Lexeme::Semicolon
-        | Lexeme::OpenParen
-        | Lexeme::CloseParen
-        | Lexeme::Unequal
-        | Lexeme::AtMost
-        | Lexeme::AtLeast
-        | Lexeme::Becomes
-        | Lexeme::Identifier
-        | Lexeme::KeyNil
-        | Lexeme::KeyNot
-        | Lexeme::Caret
-        | Lexeme::Text
-        | Lexeme::KeyRepeat
-        | Lexeme::KeyUntil
-        | Lexeme::KeyWith
-        | Lexeme::DotDot
-        | Lexeme::Hole(_)
-        | Lexeme::KeyConst
-        | Lexeme::KeyFor
-        | Lexeme::KeyTo
-        | Lexeme::KeyDownto
-        | Lexeme::KeyType
-        | Lexeme::KeyArray
-        | Lexeme::KeyOf
-        | Lexeme::KeySet
-        | Lexeme::KeyPacked
-        | Lexeme::Numeral => true,
-        _ => false,
+    match run_alone::<Brand>(alloc, sort, &lexed.symbols, Blank::new(1)) {
+        Ok(cut) => Ok(Some(cut.depth)),
+        Err(ParseError::NoMemory) => Err(AllocError),
+        Err(_) => Ok(None),
     }
+}
+
+/// Runs the machine to its end, with a counter of its own.
+fn run_alone<L: Ledger>(
+    alloc: Global,
+    sort: Sort,
+    symbols: &[Symbol],
+    blank: Blank,
+) -> Result<Cut, ParseError>
+    requires proper { Proper (syms (plain_symbols symbols.now)) }
+    requires name { blank.name ≡ L.name }
+    requires parts { blank.parts ≡ L.parts }
+    requires some { 0 < blank.parts }
+    ensures { Ends (class_of sort) (plain_symbols symbols.now) result }
+{
+    let mut work = Steps::<L>::new(blank);
+    run(alloc, sort, symbols, &mut work)
 }
 
 /// Runs the machine to its end.
@@ -186,7 +161,7 @@ fn turn_by_turn<L: Ledger>(
     }
 }
 
-/// The class of all nodes of a sort that can be read so far.
+/// The class of all nodes of a sort.
 fn class_of(sort: Sort) -> Class
     ensures { result ≡ class_of sort }
 {
@@ -203,7 +178,7 @@ fn class_of(sort: Sort) -> Class
         Sort::Constant => Class::Constant,
         Sort::Statement => Class::Statement,
         Sort::Arm => Class::Arm,
-        Sort::Expression => Class::Argument,
+        Sort::Expression => Class::Operand,
         Sort::Name => Class::Name,
     }
 }

@@ -5,7 +5,7 @@
 ghost use Rattle.std.specs.Prelude.{◌≡◌, ◌+◌, IfOk, [], IfSome};
 ghost use Rattle.pc_syntax.specs.Plain.{node};
 ghost use Rattle.pc_syntax.specs.WellFormed.{size_limit, IsProper};
-ghost use Rattle.pc_parse.specs.Rows.{is_within, no_kids, made, added, joined};
+ghost use Rattle.pc_parse.specs.Rows.{is_within, no_kids, has_kids, made, added, joined};
 ghost use Rattle.pc_parse.specs.Views.{row_view, trees_view};
 
 use crate::leaves::Leaves;
@@ -48,6 +48,13 @@ impl Row {
             size: 0,
             trees: Some(Vec::new(alloc)),
         }
+    }
+
+    /// Whether there are kids.
+    pub fn has_kids(&self) -> bool
+        ensures { result ≡ has_kids (row_view self.now) }
+    {
+        self.size != 0
     }
 
     /// One kid more.

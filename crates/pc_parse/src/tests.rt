@@ -91,23 +91,15 @@ fn a_program_or_a_declaration_is_read_as_its_tree(rt: HostRuntime) -> Result<(),
         (
             Sort::Program,
             b"program a; begin goto 1 end.",
-            Err(ParseError::NotYet),
+            Err(ParseError::NotFit(5)),
         ),
         (
             Sort::Program,
             b"program a; begin x := ?expression end.",
             Ok((14, 7)),
         ),
-        (
-            Sort::Program,
-            b"program a; { c } begin end.",
-            Err(ParseError::NotYet),
-        ),
-        (
-            Sort::Program,
-            b"program a; begin end. (* c *)",
-            Err(ParseError::NotYet),
-        ),
+        (Sort::Program, b"program a; { c } begin end.", Ok((11, 5))),
+        (Sort::Program, b"program a; begin end. (* c *)", Ok((11, 5))),
         (
             Sort::Program,
             b"program a; const b = 1; c = -b; d = 'x'; ?constdef begin end.",
@@ -167,8 +159,136 @@ fn a_program_or_a_declaration_is_read_as_its_tree(rt: HostRuntime) -> Result<(),
 }
 
 #[test]
+fn a_procedure_or_a_function_is_read_as_its_tree(rt: HostRuntime) -> Result<(), Fail> {
+    let cases: [(Sort, &[u8], Result<(u64, u32), ParseError>); 37] = [
+        (Sort::Routine, b"procedure p; begin end;", Ok((11, 5))),
+        (Sort::Routine, b"procedure p; forward;", Ok((4, 2))),
+        (Sort::Routine, b"function f: t; forward;", Ok((5, 2))),
+        (Sort::Routine, b"function f; begin end;", Ok((10, 5))),
+        (Sort::Routine, b"function f; forward;", Ok((3, 2))),
+        (Sort::Routine, b"function f(a: b): c; forward;", Ok((9, 5))),
+        (
+            Sort::Routine,
+            b"procedure p(a, b: c; var d: e; ?parameter); forward;",
+            Ok((14, 5)),
+        ),
+        (
+            Sort::Routine,
+            b"procedure p(?name: ?name); ?block;",
+            Ok((8, 5)),
+        ),
+        (Sort::Routine, b"function ?name: ?name; ?block;", Ok((5, 2))),
+        (
+            Sort::Routine,
+            b"procedure p(); forward;",
+            Err(ParseError::NotFit(4)),
+        ),
+        (
+            Sort::Routine,
+            b"procedure p(a; b: c); forward;",
+            Err(ParseError::NotFit(5)),
+        ),
+        (
+            Sort::Routine,
+            b"procedure p(a: b, c",
+            Err(ParseError::NotFit(7)),
+        ),
+        (
+            Sort::Routine,
+            b"procedure p(var); forward;",
+            Err(ParseError::NotFit(5)),
+        ),
+        (
+            Sort::Routine,
+            b"procedure p(a: array",
+            Err(ParseError::NotFit(6)),
+        ),
+        (
+            Sort::Routine,
+            b"procedure p: t; forward;",
+            Err(ParseError::NotFit(3)),
+        ),
+        (
+            Sort::Routine,
+            b"function f(a: b); forward;",
+            Err(ParseError::NotFit(8)),
+        ),
+        (
+            Sort::Routine,
+            b"function f begin end;",
+            Err(ParseError::NotFit(3)),
+        ),
+        (
+            Sort::Routine,
+            b"function f: ^t; forward;",
+            Err(ParseError::NotFit(4)),
+        ),
+        (
+            Sort::Routine,
+            b"function f: t: u; forward;",
+            Err(ParseError::NotFit(5)),
+        ),
+        (
+            Sort::Routine,
+            b"procedure p; forward",
+            Err(ParseError::NotFit(5)),
+        ),
+        (
+            Sort::Routine,
+            b"procedure p; forward.",
+            Err(ParseError::NotFit(5)),
+        ),
+        (
+            Sort::Routine,
+            b"procedure p; backward;",
+            Err(ParseError::NotFit(4)),
+        ),
+        (Sort::Parameter, b"a, b: c", Ok((5, 3))),
+        (Sort::Parameter, b"var a: b", Ok((4, 3))),
+        (Sort::Parameter, b"?parameter", Ok((1, 1))),
+        (Sort::Parameter, b"var a", Err(ParseError::NotFit(3))),
+        (Sort::Parameter, b"a: b;", Err(ParseError::NotFit(4))),
+        (Sort::Parameter, b"", Err(ParseError::NotFit(1))),
+        (Sort::Block, b"procedure p; forward; begin end", Ok((12, 4))),
+        (Sort::Block, b"?routine begin end", Ok((9, 4))),
+        (Sort::Block, b"?routine ?routine ?statement", Ok((8, 3))),
+        (
+            Sort::Block,
+            b"function f: t; forward; function f; begin end; begin end",
+            Ok((23, 7)),
+        ),
+        (
+            Sort::Program,
+            b"program a; var x: t; procedure p; procedure q; begin p end; begin q end; begin p end.",
+            Ok((44, 12)),
+        ),
+        (
+            Sort::Program,
+            b"program a; const b = 1; type c = b..2; function f(d: c): c; begin f := d end; begin write(f(1)) end.",
+            Ok((46, 10)),
+        ),
+        (
+            Sort::Program,
+            b"program a; procedure p; forward; var x: t; begin end.",
+            Err(ParseError::NotFit(9)),
+        ),
+        (
+            Sort::Program,
+            b"program a; procedure p; begin end begin end.",
+            Err(ParseError::NotFit(9)),
+        ),
+        (Sort::Statement, b"procedure p", Err(ParseError::NotFit(1))),
+    ];
+    for (sort, text, want) in cases {
+        let found = measure::<Brand>(rt.alloc(), sort, text, Blank::new(1))?;
+        assert_eq!(rt; found, want, "{text:?}");
+    }
+    Ok(())
+}
+
+#[test]
 fn a_statement_or_an_expression_is_read_as_its_tree(rt: HostRuntime) -> Result<(), Fail> {
-    let cases: [(Sort, &[u8], Result<(u64, u32), ParseError>); 39] = [
+    let cases: [(Sort, &[u8], Result<(u64, u32), ParseError>); 41] = [
         (Sort::Statement, b"?name", Ok((3, 2))),
         (Sort::Statement, b"?expression := ?name", Ok((4, 3))),
         (Sort::Statement, b"?expression", Err(ParseError::NotFit(2))),
@@ -217,7 +337,9 @@ fn a_statement_or_an_expression_is_read_as_its_tree(rt: HostRuntime) -> Result<(
         (Sort::Expression, b"[]", Ok((2, 2))),
         (Sort::Expression, b"a in [1, b..'c']", Ok((10, 6))),
         (Sort::Expression, b"[1..2..3]", Err(ParseError::NotFit(5))),
-        (Sort::Expression, b"1..2", Err(ParseError::NotFit(2))),
+        (Sort::Expression, b"1..2", Ok((3, 2))),
+        (Sort::Expression, b"1..2..3", Err(ParseError::NotFit(4))),
+        (Sort::Expression, b"a:2..3", Err(ParseError::NotFit(4))),
         (Sort::Expression, b"a + b", Ok((5, 3))),
         (Sort::Expression, b"a - b * c <= d or e", Ok((14, 5))),
         (Sort::Expression, b"a div b mod c and d", Ok((11, 5))),
@@ -232,6 +354,190 @@ fn a_statement_or_an_expression_is_read_as_its_tree(rt: HostRuntime) -> Result<(
         (Sort::Expression, b"a : 2", Ok((4, 3))),
         (Sort::Expression, b"(a : 2)", Err(ParseError::NotFit(3))),
         (Sort::Name, b"x", Ok((1, 1))),
+    ];
+    for (sort, text, want) in cases {
+        let found = measure::<Brand>(rt.alloc(), sort, text, Blank::new(1))?;
+        assert_eq!(rt; found, want, "{text:?}");
+    }
+    Ok(())
+}
+
+#[test]
+fn a_case_is_read_as_its_tree(rt: HostRuntime) -> Result<(), Fail> {
+    let cases: [(Sort, &[u8], Result<(u64, u32), ParseError>); 31] = [
+        (Sort::Statement, b"case a of 1: b end", Ok((10, 5))),
+        (Sort::Statement, b"case a of 1: b; end", Ok((10, 5))),
+        (Sort::Statement, b"case a of 1: ; 2: end", Ok((12, 5))),
+        (Sort::Statement, b"case a of 1: ; 2: ; end", Ok((12, 5))),
+        (Sort::Statement, b"case a of 1, -b, 'c': end", Ok((12, 7))),
+        (Sort::Statement, b"case a of ?arm end", Ok((5, 3))),
+        (Sort::Statement, b"case a of ?arm; ?arm; end", Ok((6, 3))),
+        (
+            Sort::Statement,
+            b"case ?expression of ?name, ?constant: ?statement end",
+            Ok((9, 6)),
+        ),
+        (
+            Sort::Statement,
+            b"case a of 1: case b of 2: end end",
+            Ok((15, 8)),
+        ),
+        (
+            Sort::Statement,
+            b"case a of 1: case b of 2: ; end; end",
+            Ok((15, 8)),
+        ),
+        (
+            Sort::Statement,
+            b"case a of 1: if b then c; 2: if d then e else f end",
+            Ok((25, 6)),
+        ),
+        (
+            Sort::Statement,
+            b"if a then case b of 1: if c then d end else e",
+            Ok((19, 7)),
+        ),
+        (
+            Sort::Statement,
+            b"case a of 1: begin b; c; end; end",
+            Ok((16, 7)),
+        ),
+        (Sort::Arm, b"1: a", Ok((6, 3))),
+        (Sort::Arm, b"1, 2: ", Ok((5, 3))),
+        (Sort::Arm, b"?arm", Ok((1, 1))),
+        (
+            Sort::Statement,
+            b"case a of end",
+            Err(ParseError::NotFit(4)),
+        ),
+        (
+            Sort::Statement,
+            b"case a of ; end",
+            Err(ParseError::NotFit(4)),
+        ),
+        (
+            Sort::Statement,
+            b"case a of 1: x; ; end",
+            Err(ParseError::NotFit(8)),
+        ),
+        (
+            Sort::Statement,
+            b"case a of 1: x;",
+            Err(ParseError::NotFit(8)),
+        ),
+        (
+            Sort::Statement,
+            b"case a of 1: x; else",
+            Err(ParseError::NotFit(8)),
+        ),
+        (
+            Sort::Statement,
+            b"case a of 1: x end end",
+            Err(ParseError::NotFit(8)),
+        ),
+        (
+            Sort::Statement,
+            b"case a of 1 x end",
+            Err(ParseError::NotFit(5)),
+        ),
+        (
+            Sort::Statement,
+            b"case a of 1, : x end",
+            Err(ParseError::NotFit(6)),
+        ),
+        (
+            Sort::Statement,
+            b"case a of 1: x else y end",
+            Err(ParseError::NotFit(7)),
+        ),
+        (
+            Sort::Statement,
+            b"case a of nil: x end",
+            Err(ParseError::NotFit(4)),
+        ),
+        (
+            Sort::Statement,
+            b"case a of -'b': x end",
+            Err(ParseError::NotFit(5)),
+        ),
+        (
+            Sort::Statement,
+            b"case of 1: x end",
+            Err(ParseError::NotFit(2)),
+        ),
+        (Sort::Arm, b"1: x;", Err(ParseError::NotFit(4))),
+        (Sort::Arm, b"end", Err(ParseError::NotFit(1))),
+        (Sort::Arm, b"1: x else y", Err(ParseError::NotFit(4))),
+    ];
+    for (sort, text, want) in cases {
+        let found = measure::<Brand>(rt.alloc(), sort, text, Blank::new(1))?;
+        assert_eq!(rt; found, want, "{text:?}");
+    }
+    Ok(())
+}
+
+#[test]
+fn a_record_is_read_as_its_tree(rt: HostRuntime) -> Result<(), Fail> {
+    let cases: [(Sort, &[u8], Result<(u64, u32), ParseError>); 27] = [
+        (Sort::Denoter, b"record end", Ok((1, 1))),
+        (Sort::Denoter, b"record a: b end", Ok((7, 5))),
+        (Sort::Denoter, b"record a: b; end", Ok((7, 5))),
+        (Sort::Denoter, b"record a, b: c; d: e end", Ok((13, 5))),
+        (Sort::Denoter, b"record a, b: c; d: e; end", Ok((13, 5))),
+        (Sort::Denoter, b"packed record end", Ok((2, 2))),
+        (Sort::Denoter, b"packed record a: b; end", Ok((8, 6))),
+        (Sort::Denoter, b"record a: record end end", Ok((6, 5))),
+        (
+            Sort::Denoter,
+            b"record a: record b: c; end; end",
+            Ok((12, 8)),
+        ),
+        (Sort::Denoter, b"record a: record b: c end end", Ok((12, 8))),
+        (
+            Sort::Denoter,
+            b"record a: array [1..2] of b; c: ^d end",
+            Ok((17, 7)),
+        ),
+        (Sort::Denoter, b"record ?field; ?field end", Ok((4, 3))),
+        (
+            Sort::Denoter,
+            b"record ?name: ?type; ?field; end",
+            Ok((7, 5)),
+        ),
+        (
+            Sort::Denoter,
+            b"array [1..2] of record a: 1..2; end",
+            Ok((13, 6)),
+        ),
+        (Sort::Denoter, b"array [1..2] of record end", Ok((6, 4))),
+        (Sort::TypeDef, b"a = record b: c; end;", Ok((9, 6))),
+        (Sort::Field, b"a, b: c", Ok((6, 3))),
+        (Sort::Field, b"?field", Ok((1, 1))),
+        (Sort::Denoter, b"record ; end", Err(ParseError::NotFit(2))),
+        (
+            Sort::Denoter,
+            b"record a: b;; end",
+            Err(ParseError::NotFit(6)),
+        ),
+        (
+            Sort::Denoter,
+            b"record a: b; end end",
+            Err(ParseError::NotFit(7)),
+        ),
+        (Sort::Denoter, b"record a: b;", Err(ParseError::NotFit(6))),
+        (Sort::Denoter, b"record", Err(ParseError::NotFit(2))),
+        (Sort::Denoter, b"record a b end", Err(ParseError::NotFit(3))),
+        (
+            Sort::Denoter,
+            b"record a: b c: d end",
+            Err(ParseError::NotFit(5)),
+        ),
+        (
+            Sort::Denoter,
+            b"set of record end",
+            Err(ParseError::NotFit(3)),
+        ),
+        (Sort::Field, b"a: b;", Err(ParseError::NotFit(4))),
     ];
     for (sort, text, want) in cases {
         let found = measure::<Brand>(rt.alloc(), sort, text, Blank::new(1))?;

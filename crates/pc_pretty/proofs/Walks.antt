@@ -1,7 +1,7 @@
 -- Printing a node item by item: what is printed so far, and what is left, make its pieces.
-use Rattle.std.proofs.Common.{◌≡◌, ℕ, ◌+◌, ◌<◌, ◌≤◌, zero, suc, Bool, true, false, ◌||◌, ◌&&◌, List, [], ◌∷◌, ◌++◌, map, drop, length, get_or, Option, Some, None, refl, ap, sym, ◌∙◌, append_assoc, append-nil, add-one, arith}
+use Rattle.std.proofs.Common.{◌≡◌, ℕ, ◌+◌, ◌<◌, ◌≤◌, zero, suc, Bool, true, false, ◌||◌, ◌&&◌, List, [], ◌∷◌, ◌++◌, map, take, drop, length, get_or, Option, Some, None, refl, ap, sym, ◌∙◌, append_assoc, append-nil, add-one, arith}
 use Rattle.std.specs.Prelude.{IsSome}
-use Rattle.std.proofs.lemmas.List.{drop_more}
+use Rattle.std.proofs.lemmas.List.{drop_more, take_more}
 use Rattle.pc_syntax.specs.declared.kind.Kind.{Kind}
 use Rattle.pc_syntax.specs.declared.kind.Kind.TheVariants.{Stmts}
 use Rattle.pc_syntax.specs.declared.lexeme.Lexeme.{Lexeme}
@@ -19,7 +19,9 @@ use Rattle.pc_pretty.specs.declared.spacing.Spacing.{Spacing}
 use Rattle.pc_pretty.specs.declared.spacing.Spacing.TheVariants.{Tight, Space, Line, Deeper}
 use Rattle.pc_pretty.specs.Spacing as spacing
 use Rattle.pc_pretty.specs.Spacing.{spaces, space}
-use Rattle.pc_pretty.specs.Printed.{Piece, place, gap_at, inner, or_own, kept_next, kept_after, arrange, arrange_some, printers, pieces, pieces_of, written, text_of, has_pieces}
+use Rattle.pc_pretty.specs.Printed.{Piece, place, gap_at, inner, next_line, behind, note_text, led, or_own, kept_next, kept_after, arrange, arrange_some, printers, pieces, pieces_of, written, text_of, has_pieces}
+use Rattle.pc_pretty.proofs.Arranged.{led-none, has_pieces-led}
+use Rattle.pc_pretty.proofs.PrintedSpells.{symbols_there}
 
 -- one more space
 pub spaces_push : (n : ℕ) → spaces n ++ 32 ∷ [] ≡ spaces (n + 1)
@@ -32,7 +34,7 @@ kind_of t = t.kind
 pub printers-is : (ts : Forest) → printers ts ≡ map pieces_of (trees_of ts)
 unfolding pieces_of
 printers-is Nil = refl
-printers-is (Cons k w ns ks ts) = ap (λ ps. pieces k w ks ∷ ps) (printers-is ts)
+printers-is (Cons k w ns ks ts) = ap (λ ps. pieces k w ns ks ∷ ps) (printers-is ts)
 
 pub kinds-is : (ts : Forest) → kinds ts ≡ map kind_of (trees_of ts)
 kinds-is Nil = refl
@@ -54,13 +56,38 @@ fitting t is p e =
     let g : fits_some (Some is) (kinds t.kids) ≡ true = ap (λ o. fits_some o (kinds t.kids)) (sym f) ∙ p.sound.0 in
     ap (fits is) (sym (kinds-is t.kids)) ∙ g
 
--- and which gives its pieces
-pub pieces_of-layout : (t : Plain) (p : Place) (is : List Item) → layout t.kind t.word (length (kids_of t)) ≡ Some is →
-    pieces_of t p ≡ arrange t.kind 0 is t.word (map pieces_of (kids_of t)) (Some p) (inner p)
+-- behind notes the line has the same indentation
+inner-behind : (ns : List (List ℕ)) (p : Place) → inner (behind ns p) ≡ inner p
+inner-behind [] p = refl
+inner-behind (n ∷ ns) p = refl
+
+-- and which gives its symbols
+left-layout : (t : Plain) (p : Place) (is : List Item) → layout t.kind t.word (length (kids_of t)) ≡ Some is →
+    arrange_some t.kind (layout t.kind t.word (count t.kids)) t.word (printers t.kids) p ≡ arrange t.kind 0 is t.word (map pieces_of (kids_of t)) (Some p) (inner p)
 unfolding pieces_of kids_of
-pieces_of-layout t p is e =
+left-layout t p is e =
     let f : layout t.kind t.word (count t.kids) ≡ Some is = ap (layout t.kind t.word) (sym (length-kids_of t)) ∙ e in
     ap (λ o. arrange_some t.kind o t.word (printers t.kids) p) f ∙ ap (λ ps. arrange t.kind 0 is t.word ps (Some p) (inner p)) (printers-is t.kids)
+
+-- before which its notes stand
+led_text : (bs : List ℕ) (ps : List Piece) → has_pieces ps ≡ true → text_of (led bs ps) ≡ bs ++ text_of ps
+led_text bs [] h = cc
+led_text bs (p ∷ ps) h = ap (λ cs. cs ++ text_of ps) (append_assoc bs p.gap (written p.sym)) ∙ append_assoc bs (p.gap ++ written p.sym) (text_of ps)
+
+text_of-led : (ns : List (List ℕ)) (p : Place) (f : Place → List Piece) → ((c : List ℕ) (cs : List (List ℕ)) → ns ≡ c ∷ cs → has_pieces (f (next_line p)) ≡ true) →
+    text_of (led (note_text ns p) (f (behind ns p))) ≡ note_text ns p ++ text_of (f (behind ns p))
+text_of-led [] p f h = ap text_of (led-none (f p))
+text_of-led (c ∷ cs) p f h = led_text (note_text (c ∷ cs) p) (f (next_line p)) (h c cs refl)
+
+text_of-pieces : (t : Plain) (p : Place) → IsProper t →
+    text_of (pieces_of t p) ≡ note_text t.notes p ++ text_of (arrange_some t.kind (layout t.kind t.word (count t.kids)) t.word (printers t.kids) (behind t.notes p))
+unfolding pieces_of
+text_of-pieces t p h =
+    text_of-led t.notes p (arrange_some t.kind (layout t.kind t.word (count t.kids)) t.word (printers t.kids)) (λ c cs e. symbols_there t c cs p h.sound e)
+
+has_pieces-pieces : (t : Plain) (p : Place) → has_pieces (pieces_of t p) ≡ has_pieces (arrange_some t.kind (layout t.kind t.word (count t.kids)) t.word (printers t.kids) (behind t.notes p))
+unfolding pieces_of
+has_pieces-pieces t p = has_pieces-led (note_text t.notes p) (arrange_some t.kind (layout t.kind t.word (count t.kids)) t.word (printers t.kids) (behind t.notes p))
 
 -- a kid is less deep
 depth-le : (ts : List Plain) (i : ℕ) (d : Plain) → i < length ts → depth_of (get_or ts i d) ≤ largest (map depth_of ts)
@@ -88,7 +115,7 @@ pub record Walk (all : List Piece) (old : List ℕ) (k : Kind) (w : List ℕ) (i
   pub fits : fits items (map kind_of kids) ≡ true
   pub within : Within kept i
 
-text_of-append : (ps qs : List Piece) → text_of (ps ++ qs) ≡ text_of ps ++ text_of qs
+pub text_of-append : (ps qs : List Piece) → text_of (ps ++ qs) ≡ text_of ps ++ text_of qs
 text_of-append [] qs = refl
 text_of-append (p ∷ ps) qs =
     ap (λ bs. p.gap ++ written p.sym ++ bs) (text_of-append ps qs) ∙ sym (append_assoc (p.gap ++ written p.sym) (text_of ps) (text_of qs))
@@ -242,15 +269,55 @@ walked_all all old k w i items kids n kept out some e h =
     let g : Walk all old k w i [] kids n kept out some = rw e at h in
     (sym (g.text ∙ append-nil out), sym (g.printed ∙ or_false some))
 
--- at first nothing is printed
-pub starts : (t : Plain) (p : Place) (is : List Item) (out : List ℕ) → IsProper t → layout t.kind t.word (length (kids_of t)) ≡ Some is →
-    Walk (pieces_of t p) out t.kind t.word (inner p) is (kids_of t) 0 (Some p) out false
-starts t p is out h e = record {
-  text = ap (λ ps. out ++ text_of ps) (pieces_of-layout t p is e);
-  printed = ap has_pieces (pieces_of-layout t p is e);
-  fits = fitting t is h e;
-  within = le-indentation p.spacing p.indentation;
-}
+-- at first the notes are printed
+behind_within : (ns : List (List ℕ)) (p : Place) → Within (Some (behind ns p)) (inner p)
+behind_within [] p = le-indentation p.spacing p.indentation
+behind_within (n ∷ ns) p = omega arith
+
+pub starts : (t : Plain) (p : Place) (is : List Item) (old out : List ℕ) (kept : Place) → IsProper t → layout t.kind t.word (length (kids_of t)) ≡ Some is →
+    out ≡ old ++ note_text t.notes p → kept ≡ behind t.notes p →
+    Walk (pieces_of t p) old t.kind t.word (inner p) is (kids_of t) 0 (Some kept) out false
+starts t p is old out kept h e eo ek =
+    let some : List Piece = arrange_some t.kind (layout t.kind t.word (count t.kids)) t.word (printers t.kids) (behind t.notes p) in
+    let rest : some ≡ arrange t.kind 0 is t.word (map pieces_of (kids_of t)) (Some (behind t.notes p)) (inner p) =
+    left-layout t (behind t.notes p) is e ∙ ap (arrange t.kind 0 is t.word (map pieces_of (kids_of t)) (Some (behind t.notes p))) (inner-behind t.notes p) in
+    rw (eo, ek) record {
+      text = ap (λ bs. old ++ bs) (text_of-pieces t p h) ∙ sym (append_assoc old (note_text t.notes p) (text_of some)) ∙ ap (λ ps. (old ++ note_text t.notes p) ++ text_of ps) rest;
+      printed = has_pieces-pieces t p ∙ ap has_pieces rest;
+      fits = fitting t is h e;
+      within = behind_within t.notes p;
+    }
+
+-- one more note is printed
+pub note_push : (ns : List (List ℕ)) (n : List ℕ) (p : Place) → note_text (ns ++ n ∷ []) p ≡ note_text ns p ++ (gap_at (behind ns p) ++ n)
+note_push [] n p = append-nil (gap_at p ++ n)
+note_push (m ∷ ns) n p =
+    ap (λ bs. gap_at p ++ m ++ bs) (note_push ns n (next_line p) ∙ ap (λ q. note_text ns (next_line p) ++ (gap_at q ++ n)) (behind_line ns p))
+    ∙ sym (append_assoc (gap_at p ++ m) (note_text ns (next_line p)) (gap_at (next_line p) ++ n))
+  where
+    behind_line : (ms : List (List ℕ)) (q : Place) → behind ms (next_line q) ≡ next_line q
+    behind_line [] q = refl
+    behind_line (k ∷ ms) q = refl
+
+pub behind_push : (ns : List (List ℕ)) (n : List ℕ) (p : Place) → behind (ns ++ n ∷ []) p ≡ next_line (behind ns p)
+behind_push [] n p = refl
+behind_push (m ∷ ns) n p = refl
+
+-- which is the case in a loop over them
+pub notes_more : (ns : List (List ℕ)) (n v : List ℕ) (i : ℕ) (p at : Place) (old before spaced after : List ℕ) → i < length ns → get_or ns i n ≡ n → v ≡ n →
+    before ≡ old ++ note_text (take i ns) p → at ≡ behind (take i ns) p → spaced ≡ before ++ gap_at at → after ≡ spaced ++ v →
+    after ≡ old ++ note_text (take (i + 1) ns) p
+notes_more ns n v i p at old before spaced after l e ev eb ea es ef =
+    let more : take (i + 1) ns ≡ take i ns ++ n ∷ [] = take_more ns i n l ∙ ap (λ m. take i ns ++ m ∷ []) e in
+    let done : List ℕ = note_text (take i ns) p in
+    let now : after ≡ ((old ++ done) ++ gap_at (behind (take i ns) p)) ++ n =
+    ef ∙ ap (λ bs. spaced ++ bs) ev ∙ ap (λ bs. bs ++ n) (es ∙ ap (λ bs. bs ++ gap_at at) eb ∙ ap (λ q. (old ++ done) ++ gap_at q) ea) in
+    now ∙ append_assoc (old ++ done) (gap_at (behind (take i ns) p)) n ∙ append_assoc old done (gap_at (behind (take i ns) p) ++ n)
+    ∙ ap (λ bs. old ++ bs) (sym (note_push (take i ns) n p)) ∙ ap (λ ms. old ++ note_text ms p) (sym more)
+
+pub behind_more : (ns : List (List ℕ)) (n : List ℕ) (i : ℕ) (p at : Place) (k : ℕ) → i < length ns → at ≡ behind (take i ns) p → k ≡ inner at → place Line k ≡ behind (take (i + 1) ns) p
+behind_more ns n i p at k l e ek =
+    ap (place Line) (ek ∙ ap inner e) ∙ sym (behind_push (take i ns) (get_or ns i n) p) ∙ ap (λ ms. behind ms p) (sym (take_more ns i n l))
 
 -- whether something is printed, after one more item
 pub some_then : (a b r : Bool) → a ≡ true → r ≡ a → r ≡ (a || b)

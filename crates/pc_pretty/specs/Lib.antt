@@ -1,4 +1,11 @@
+pub mod Innermost
+pub mod Joined
+pub mod Kept
 pub mod Laws
+pub mod Notes
+pub mod Preorder
 pub mod Printed
+pub mod Ranges
 pub mod RoundTrip
 pub mod Spacing
+pub mod Spans

@@ -1,4 +1,4 @@
--- The printed text of a tree: its symbols with the spaces between them.
+-- The printed text of a tree: its symbols and notes with the spaces between them.
 use Rattle.std.specs.Prelude.{ℕ, suc, Bool, true, false, List, [], ◌∷◌, ◌++◌, Option, Some, None}
 use Rattle.pc_syntax.specs.declared.kind.Kind.{Kind}
 use Rattle.pc_syntax.specs.declared.kind.Kind.TheVariants as kind
@@ -9,7 +9,7 @@ use Rattle.pc_syntax.specs.Layout.{layout}
 use Rattle.pc_syntax.specs.Spellings.{spelling_of}
 use Rattle.pc_syntax.specs.Symbols.{Sym}
 use Rattle.pc_pretty.specs.declared.spacing.Spacing.{Spacing}
-use Rattle.pc_pretty.specs.declared.spacing.Spacing.TheVariants.{Tight}
+use Rattle.pc_pretty.specs.declared.spacing.Spacing.TheVariants.{Tight, Line}
 use Rattle.pc_pretty.specs.declared.spacing.Place.{Place}
 use Rattle.pc_pretty.specs.Spacing.{gap, indentation, space}
 
@@ -29,6 +29,25 @@ gap_at p = gap p.spacing p.indentation
 -- the indentation of the line on which a node at this place begins
 abbrev pub inner : Place → ℕ
 inner p = indentation p.spacing p.indentation
+
+-- the place behind a note of a node at this place: a new line of the node
+abbrev pub next_line : Place → Place
+next_line p = place Line (inner p)
+
+-- the place behind so many notes
+abbrev pub behind : List (List ℕ) → Place → Place
+behind [] p = p
+behind (n ∷ ns) p = next_line p
+
+-- a node's notes: the first stands where the node does, each other one on a new line
+abbrev pub note_text : List (List ℕ) → Place → List ℕ
+note_text [] p = []
+note_text (n ∷ ns) p = gap_at p ++ n ++ note_text ns (next_line p)
+
+-- pieces with these bytes before the first
+abbrev pub led : List ℕ → List Piece → List Piece
+led bs [] = []
+led bs (p ∷ ps) = record { gap = bs ++ p.gap; sym = p.sym } ∷ ps
 
 -- the place of what comes next: the one that is kept for it, or its own
 abbrev pub or_own : Option Place → Place → Place
@@ -66,18 +85,18 @@ abbrev pub arrange_some : Kind → Option (List Item) → List ℕ → List Prin
 arrange_some k None w ps p = []
 arrange_some k (Some is) w ps p = arrange k 0 is w ps (Some p) (inner p)
 
--- how each of the trees is printed at a place
+-- how each of the trees is printed at a place: its notes, and on the next line its symbols
 abbrev pub printers : Forest → List Printer
 printers Nil = []
-printers (Cons k w ns ks ts) = (λ p. arrange_some k (layout k w (count ks)) w (printers ks) p) ∷ printers ts
+printers (Cons k w ns ks ts) = (λ p. led (note_text ns p) (arrange_some k (layout k w (count ks)) w (printers ks) (behind ns p))) ∷ printers ts
 
 -- the pieces of a tree at a place
-abbrev pub pieces : Kind → List ℕ → Forest → Place → List Piece
-pieces k w ks p = arrange_some k (layout k w (count ks)) w (printers ks) p
+abbrev pub pieces : Kind → List ℕ → List (List ℕ) → Forest → Place → List Piece
+pieces k w ns ks p = led (note_text ns p) (arrange_some k (layout k w (count ks)) w (printers ks) (behind ns p))
 
 -- the pieces of a tree, by its place
 unfoldable pub pieces_of : Plain → Printer
-pieces_of t p = pieces t.kind t.word t.kids p
+pieces_of t p = pieces t.kind t.word t.notes t.kids p
 
 -- a symbol as it is written
 abbrev pub written : Sym → List ℕ

@@ -4,21 +4,23 @@ ghost use Rattle.std.specs.Prelude.{◌≡◌, ◌+◌, ◌*◌, ◌≤◌, ◌+
 ghost use Rattle.pc_syntax.specs.Spellings.{spelling_of};
 ghost use Rattle.pc_syntax.specs.WellFormed.{depth_of};
 ghost use Rattle.pc_pretty.specs.Spacing.{gap, spaces};
-ghost use Rattle.pc_syntax.specs.Symbols.{symbols_of};
 ghost use Rattle.pc_pretty.specs.Printed as spec;
+ghost use Rattle.pc_layout.specs.Noted.{HasNotes};
+ghost use Rattle.pc_pretty.specs.Notes.{tree_notes};
 ghost use Rattle.pc_pretty.specs.Laws.{Spelled, ReadsBack};
 
 use crate::spacing::{Place, Spacing, space};
 use pc_layout::node_items;
-use pc_syntax::{Item, Kind, Lexeme, Tree};
+use pc_syntax::{Item, Kind, Lexeme, Note, Tree};
 use std::alloc::{AllocError, Global};
 
-/// The text of a tree: its symbols with white space between them, and a line feed at the end. Comments are not
-/// printed: a tree that is read so far keeps none. Fails for want of memory only.
+/// The text of a tree: its symbols with white space between them, and a line feed at the end. The notes of a node
+/// stand before its first symbol, each on a line of its own. Fails for want of memory only.
 #[tactic(auto, unfolding(crate::specs::Printed::printed))]
 pub fn print(alloc: Global, tree: &Tree) -> Result<Vec<u8>, AllocError>
     ensures value { IfOk result (λ text. text.items ≡ spec.printed tree.now) }
-    ensures spelled { IfOk result (λ text. Spelled text.items (symbols_of tree.now)) }
+    ensures spelled { IfOk result (λ text. Spelled text.items tree.now) }
+    ensures noted { IfOk result (λ _. HasNotes tree.now (tree_notes tree.now)) }
     ensures read_back { IfOk result (λ text. ReadsBack text.items tree.now) }
 {
     let _ = tree.depth();
@@ -49,7 +51,7 @@ fn print_node(
     let items = node_items(alloc, kind, word, kids.len())?;
     let indentation = place.inner();
     let mut number = 0;
-    let mut kept = Some(place);
+    let mut kept = Some(push_notes(out, place, tree.notes())?);
     let mut some = false;
     for (n, item) in items.as_slice().iter().enumerate() {
         let spacing = space(kind, n, *item);
@@ -79,6 +81,24 @@ fn print_node(
         some = some || printed;
     }
     Ok(some)
+}
+
+/// Adds the notes of a node at a place, and says where its first symbol stands behind them.
+fn push_notes(out: &mut Vec<u8>, place: Place, notes: &[Note]) -> Result<Place, AllocError>
+    requires { place.indentation ≤ 998 }
+    ensures text { IfOk result (λ _. out.new.items ≡ out.old.items ++ spec.note_text notes.now place) }
+    ensures behind { IfOk result (λ behind. behind ≡ spec.behind notes.now place) }
+{
+    let mut at = place;
+    for note in notes {
+        push_gap(out, at)?;
+        out.extend_from_slice(note.bytes())?;
+        at = Place {
+            spacing: Spacing::Line,
+            indentation: at.inner(),
+        };
+    }
+    Ok(at)
 }
 
 /// The place that is kept, or else its own.

@@ -4,8 +4,7 @@ ghost use Rattle.pc_pretty.specs.RoundTrip.{PrintedReadsBack};
 
 use pc_parse::one_tree;
 
-/// What is printed of a program that was read spells symbols that are all read so far, and their
-/// one tree is that program.
+/// What is printed of a program that was read, with its notes, spells symbols whose one tree is that program.
 pub fn printed_reads_back()
     ensures { PrintedReadsBack }
 {

@@ -1,3 +1,4 @@
 pub mod FillSteps
 pub mod LineSteps
 pub mod LoadSteps
+pub mod RangeSteps

@@ -8,25 +8,26 @@ use Rattle.pc_command.specs.declared.refusal.Refusal.TheVariants.{NothingToUndo,
 use Rattle.pc_command.specs.declared.command.ViewName.{ViewName}
 use Rattle.pc_command.specs.declared.command.ViewName.TheVariants.{Syntax, Nodes}
 use Rattle.pc_session.specs.declared.accepted.Accepted.{Accepted}
+use Rattle.pc_session.specs.declared.made.Made.{Made}
 use Rattle.pc_session.specs.PlainSession.{PlainSession}
 use Rattle.pc_session.specs.Trees.{edited, Undoes}
 
--- An edit was accepted: it gives this tree, it makes no step, and so many comments were dropped.
-pub record Accepts (s : PlainSession) (tree : Plain) (dropped : ℕ) (answer : Accepted) (t : PlainSession) : Type 0 where
-  pub trees : t.trees ≡ edited s.trees tree
+-- An edit was accepted: it gives this program, it makes no step, and so many comments were dropped.
+pub record Accepts (s : PlainSession) (made : Made) (answer : Accepted) (t : PlainSession) : Type 0 where
+  pub trees : t.trees ≡ edited s.trees made.tree
   pub count : t.count ≡ s.count
   pub counted : answer.count ≡ t.count
-  pub dropped_is : answer.dropped ≡ dropped
+  pub dropped : answer.dropped ≡ made.dropped
 
--- An edit that gives this tree was accepted, or there was no memory and nothing changes.
-abbrev pub IsEdited : PlainSession → Plain → ℕ → Result Accepted Refusal → PlainSession → Type 0
-IsEdited s tree dropped (Ok answer) t = Accepts s tree dropped answer t
-IsEdited s tree dropped (Err NoMemory) t = t ≡ s
-IsEdited s tree dropped (Err _) t = ⊥
+-- An edit that makes this was accepted, or there was no memory and nothing changes.
+abbrev pub IsEdited : PlainSession → Made → Result Accepted Refusal → PlainSession → Type 0
+IsEdited s made (Ok answer) t = Accepts s made answer t
+IsEdited s made (Err NoMemory) t = t ≡ s
+IsEdited s made (Err _) t = ⊥
 
 -- An edit, by what it makes of the program: that is the session's now, or it is refused and nothing changes.
-abbrev pub Edits : (Plain → Result Plain Refusal → Type 0) → PlainSession → Result Accepted Refusal → PlainSession → Type 0
-Edits makes s (Ok answer) t = (tree : Plain) × makes s.trees.tree (Ok tree) × Accepts s tree 0 answer t
+abbrev pub Edits : (Plain → Result Made Refusal → Type 0) → PlainSession → Result Accepted Refusal → PlainSession → Type 0
+Edits makes s (Ok answer) t = (made : Made) × makes s.trees.tree (Ok made) × Accepts s made answer t
 Edits makes s (Err refusal) t = makes s.trees.tree (Err refusal) × (t ≡ s)
 
 -- Undo: the last edit is undone, or there is none.

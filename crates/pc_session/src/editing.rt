@@ -2,17 +2,20 @@
 
 ghost use Rattle.std.specs.Prelude.{◌≡◌};
 ghost use Rattle.pc_session.specs.Editing.{takes_element, Puts, Adds, Fills, Cuts};
-ghost use Rattle.pc_session.specs.Finding.{StepsOnSymbols};
+ghost use Rattle.pc_partial.specs.Retyping.{StepsOnSymbols};
 ghost use Rattle.pc_session.specs.Making.{MakesTemplate, refused};
 
-use crate::load::{refusal_at_list, tree_of};
+use crate::load::symbols_of;
+use crate::made::Made;
+use crate::measuring::unread;
 use pc_command::Refusal;
+use pc_parse::read;
 use pc_syntax::{EditError, Path, Steps, Tree, template};
 use std::alloc::Global;
 use std::sync::ledger::Ledger;
 
 /// The tree with the template of a name in the place of the node at a path.
-pub fn with_template(alloc: Global, tree: &Tree, path: &Path, name: &[u8]) -> Result<Tree, Refusal>
+pub fn with_template(alloc: Global, tree: &Tree, path: &Path, name: &[u8]) -> Result<Made, Refusal>
     ensures { Puts path.now name.now tree.now result }
 {
     if tree.at(path).is_none() {
@@ -20,7 +23,7 @@ pub fn with_template(alloc: Global, tree: &Tree, path: &Path, name: &[u8]) -> Re
     }
     let piece = template_named(alloc, name)?;
     match tree.put(alloc, path, &piece) {
-        Ok(tree) => Ok(tree),
+        Ok(tree) => Ok(Made { tree, dropped: 0 }),
         Err(error) => Err(refused(error)),
     }
 }
@@ -32,7 +35,7 @@ pub fn with_added_template(
     path: &Path,
     k: u32,
     name: &[u8],
-) -> Result<Tree, Refusal>
+) -> Result<Made, Refusal>
     ensures { Adds path.now k name.now tree.now result }
 {
     if !takes_element(tree, path, k) {
@@ -40,7 +43,7 @@ pub fn with_added_template(
     }
     let piece = template_named(alloc, name)?;
     match tree.add(alloc, path, k, &piece) {
-        Ok(tree) => Ok(tree),
+        Ok(tree) => Ok(Made { tree, dropped: 0 }),
         Err(error) => Err(refused(error)),
     }
 }
@@ -52,33 +55,37 @@ pub fn with_text<L: Ledger>(
     path: &Path,
     text: &[u8],
     work: &mut Steps<L>,
-) -> Result<Tree, Refusal>
+) -> Result<Made, Refusal>
     ensures made { Fills path.now text.now tree.now result }
     ensures work { StepsOnSymbols text.now work.old work.new }
 {
     let Some(old) = tree.at(path) else {
         return Err(Refusal::NoPlace);
     };
-    let Some(sort) = old.kind().sort() else {
-        let refusal = refusal_at_list(alloc, text, work);
-        return Err(refusal);
-    };
-    let reading = match tree_of(alloc, sort, text, work) {
-        Ok(reading) => reading,
+    let lexed = match symbols_of(alloc, text) {
+        Ok(lexed) => lexed,
         Err(refusal) => return Err(refusal),
     };
+    let Some(sort) = old.kind().sort() else {
+        return Err(Refusal::NotFit(0));
+    };
+    let reading = match read(alloc, sort, &lexed, work) {
+        Ok(reading) => reading,
+        Err(error) => return Err(unread(alloc, tree, path, sort, &lexed, error)),
+    };
+    let dropped = reading.dropped;
     match tree.put(alloc, path, &reading.tree) {
-        Ok(tree) => Ok(tree),
+        Ok(tree) => Ok(Made { tree, dropped }),
         Err(error) => Err(refused(error)),
     }
 }
 
 /// The tree without the node at a path.
-pub fn without_node(alloc: Global, tree: &Tree, path: &Path) -> Result<Tree, Refusal>
+pub fn without_node(alloc: Global, tree: &Tree, path: &Path) -> Result<Made, Refusal>
     ensures { Cuts path.now tree.now result }
 {
     match tree.cut(alloc, path) {
-        Ok(tree) => Ok(tree),
+        Ok(tree) => Ok(Made { tree, dropped: 0 }),
         Err(error) => Err(refused(error)),
     }
 }
@@ -106,8 +113,8 @@ fn template_named(alloc: Global, name: &[u8]) -> Result<Tree, Refusal>
     }
 }
 
-// The refusal of an edit that a tree answers so.
-fn refused(error: EditError) -> Refusal
+/// The refusal of an edit that a tree answers so.
+pub fn refused(error: EditError) -> Refusal
     ensures { result ≡ refused error }
 {
     match error {

@@ -1,49 +1,65 @@
-//! The tree that a text writes.
+//! The program that a text writes, or the printed text of a program with a range replaced.
 
 ghost use Rattle.std.specs.Prelude.{◌≡◌};
-ghost use Rattle.pc_parse.specs.Reading.{class_of};
-ghost use Rattle.pc_session.specs.Finding.{Finds, FindsSymbols, RefusesList, StepsOnSymbols, misread, unlisted, unspelled};
+ghost use Rattle.pc_syntax.specs.Plain.{Plain};
+ghost use Rattle.pc_partial.specs.Retyping.{StepsOnSymbols, StepsOnRange};
+ghost use Rattle.pc_session.specs.Editing.{Writes, Retypes};
+ghost use Rattle.pc_session.specs.Finding.{FindsSymbols, misread, unretyped, unspelled};
 
+use crate::made::Made;
 use pc_command::Refusal;
 use pc_lex::{LexError, Lexed, lex};
-use pc_parse::{ParseError, Reading, read};
-use pc_syntax::{Sort, Steps};
+use pc_parse::{ParseError, read};
+use pc_partial::{RetypeError, retype};
+use pc_pretty::{Range, pretty};
+use pc_syntax::{Sort, Steps, Tree};
 use std::alloc::Global;
 use std::sync::ledger::Ledger;
 
-/// The tree of a sort that a text writes.
-pub fn tree_of<L: Ledger>(
+/// The program that a text writes.
+pub fn program_of<L: Ledger>(
     alloc: Global,
-    sort: Sort,
     text: &[u8],
     work: &mut Steps<L>,
-) -> Result<Reading, Refusal>
-    ensures found { Finds (class_of sort) text.now result }
+) -> Result<Made, Refusal>
+    ensures made { (p : Plain) → Writes text.now p result }
     ensures work { StepsOnSymbols text.now work.old work.new }
 {
     let lexed = symbols_of(alloc, text)?;
-    match read(alloc, sort, &lexed, work) {
-        Ok(reading) => Ok(reading),
+    match read(alloc, Sort::Program, &lexed, work) {
+        Ok(reading) => Ok(Made {
+            tree: reading.tree,
+            dropped: reading.dropped,
+        }),
         Err(error) => Err(misread(error)),
     }
 }
 
-/// Why a text can't take the place of a list. No list is read; whether the symbols are let through shows at any sort.
-pub fn refusal_at_list<L: Ledger>(alloc: Global, text: &[u8], work: &mut Steps<L>) -> Refusal
-    ensures refusal { RefusesList text.now result }
-    ensures work { StepsOnSymbols text.now work.old work.new }
+/// The program that the printed text of a program writes once a text stands in the place of a range.
+pub fn with_range<L: Ledger>(
+    alloc: Global,
+    tree: &Tree,
+    range: &Range,
+    new: &[u8],
+    work: &mut Steps<L>,
+) -> Result<Made, Refusal>
+    ensures made { Retypes range.now new.now tree.now result }
+    ensures work { StepsOnRange tree.now range.now new.now work.old work.new }
 {
-    match symbols_of(alloc, text) {
-        Ok(lexed) => match read(alloc, Sort::Name, &lexed, work) {
-            Ok(_) => Refusal::NotFit(0),
-            Err(error) => unlisted(error),
-        },
-        Err(refusal) => refusal,
+    let Ok(text) = pretty(alloc, tree) else {
+        return Err(Refusal::NoMemory);
+    };
+    match retype(alloc, tree, &text, range, new, work) {
+        Ok(reading) => Ok(Made {
+            tree: reading.tree,
+            dropped: reading.dropped,
+        }),
+        Err(error) => Err(unretyped(error)),
     }
 }
 
-// The symbols of a text.
-fn symbols_of<'a>(alloc: Global, text: &'a [u8]) -> Result<Lexed<'a>, Refusal>
+/// The symbols of a text.
+pub fn symbols_of<'a>(alloc: Global, text: &'a [u8]) -> Result<Lexed<'a>, Refusal>
     ensures { FindsSymbols text.now result }
 {
     match lex(alloc, text) {
@@ -52,40 +68,38 @@ fn symbols_of<'a>(alloc: Global, text: &'a [u8]) -> Result<Lexed<'a>, Refusal>
     }
 }
 
-// The refusal of a text whose symbols are refused so.
+// The refusal of a program whose symbols are refused so.
 fn misread(error: ParseError) -> Refusal
     ensures { result ≡ misread error }
 {
     match error {
         ParseError::NotFit(number) => Refusal::NotFit(number),
-        ParseError::NotYet | ParseError::TooDeep(_) | ParseError::TooLarge(_) => Refusal::NotBuilt,
+        ParseError::TooDeep(depth) => Refusal::TooDeep(depth),
+        ParseError::TooLarge(size) => Refusal::TooLarge(size),
         ParseError::NoMemory => Refusal::NoMemory,
     }
 }
 
-// The refusal of a text in the place of a list, whose symbols are answered so.
-fn unlisted(error: ParseError) -> Refusal
-    ensures { result ≡ unlisted error }
+// The refusal of a text with a range replaced that is refused so.
+fn unretyped(error: RetypeError) -> Refusal
+    ensures { result ≡ unretyped error }
 {
     match error {
-        ParseError::NotYet => Refusal::NotBuilt,
-        ParseError::NotFit(_) | ParseError::TooDeep(_) | ParseError::TooLarge(_) => Refusal::NotFit(
-            0,
-        ),
-        ParseError::NoMemory => Refusal::NoMemory,
+        RetypeError::BadRange => Refusal::BadRange,
+        RetypeError::Lex(fault) => Refusal::Lex(fault),
+        RetypeError::NotFit(number) => Refusal::NotFit(number),
+        RetypeError::TooDeep(depth) => Refusal::TooDeep(depth),
+        RetypeError::TooLarge(size) => Refusal::TooLarge(size),
+        RetypeError::NoMemory => Refusal::NoMemory,
     }
 }
 
 // The refusal of a text with this fault.
-fn unspelled(error: LexError) -> Refusal
-    ensures { result ≡ unspelled error }
+fn unspelled(fault: LexError) -> Refusal
+    ensures { result ≡ unspelled fault }
 {
-    match error {
-        LexError::BadByte(_)
-        | LexError::OpenComment(_)
-        | LexError::OpenString(_)
-        | LexError::EmptyString(_)
-        | LexError::LongNumeral(_) => Refusal::NotBuilt,
+    match fault {
         LexError::NoMemory => Refusal::NoMemory,
+        _ => Refusal::Lex(fault),
     }
 }

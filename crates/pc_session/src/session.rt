@@ -3,17 +3,18 @@
 ghost use Rattle.std.specs.Prelude.{◌≡◌, Err, IfOk};
 ghost use Rattle.pc_syntax.specs.Plain.{Plain};
 ghost use Rattle.pc_session.specs.Commands.{IsEdited, Edits, IsUndone, IsRedone, shown};
-ghost use Rattle.pc_session.specs.Editing.{Writes, Puts, Adds, Fills, Cuts};
-ghost use Rattle.pc_session.specs.Finding.{StepsOnSymbols};
+ghost use Rattle.pc_session.specs.Editing.{Writes, Retypes, Puts, Adds, Fills, Cuts};
+ghost use Rattle.pc_partial.specs.Retyping.{StepsOnSymbols, StepsOnRange};
 ghost use Rattle.pc_session.specs.PlainSession.{opening};
 ghost use Rattle.pc_session.specs.Trees.{Trees, edited};
 
 use crate::accepted::Accepted;
 use crate::editing::{with_added_template, with_template, with_text, without_node};
 use crate::history::History;
-use crate::load::tree_of;
+use crate::load::{program_of, with_range};
+use crate::made::Made;
 use pc_command::{Refusal, ViewName};
-use pc_pretty::print;
+use pc_pretty::{Range, print};
 use pc_syntax::{Path, Sort, Steps, Tree, hole};
 use pc_views::tree_view;
 use std::alloc::{AllocError, Global};
@@ -63,10 +64,9 @@ impl Session {
         self.history.tree()
     }
 
-    /// Makes the program that the text writes the session's. `NotBuilt` where the text spells no
-    /// symbols, has a comment or a symbol that isn't read so far, or where its program is too deep or
-    /// too large; `NotFit` where it writes no program, with the number of one of its symbols, from 1, or
-    /// one more than it has; no other refusal but `NoMemory`.
+    /// Makes the program that the text writes the session's. The first of these refusals that applies: `Lex` where the text
+    /// spells no symbols, with its first fault; `NotFit` where it writes no program, with the number of one of its symbols, from
+    /// 1, or one more than it has; `TooDeep` and `TooLarge` with the numbers of its program; no other refusal but `NoMemory`.
     pub fn load<L: Ledger>(
         &mut self,
         alloc: Global,
@@ -77,8 +77,8 @@ impl Session {
         ensures before { self.new.before ≡ self.old.now }
         ensures work { StepsOnSymbols text.now work.old work.new }
     {
-        match tree_of(alloc, Sort::Program, text, work) {
-            Ok(reading) => self.edit(reading.tree, reading.dropped),
+        match program_of(alloc, text, work) {
+            Ok(made) => self.edit(made),
             Err(refusal) => self.refuse(refusal),
         }
     }
@@ -99,7 +99,7 @@ impl Session {
     {
         let _ = &work;
         match with_template(alloc, self.tree(), path, template) {
-            Ok(tree) => self.edit(tree, 0),
+            Ok(made) => self.edit(made),
             Err(refusal) => self.refuse(refusal),
         }
     }
@@ -120,16 +120,16 @@ impl Session {
     {
         let _ = &work;
         match with_added_template(alloc, self.tree(), path, k, template) {
-            Ok(tree) => self.edit(tree, 0),
+            Ok(made) => self.edit(made),
             Err(refusal) => self.refuse(refusal),
         }
     }
 
     /// Puts the tree that the text writes in the place of the node at a path, read as a tree of that node's sort. The first of
-    /// these refusals that applies: `NoPlace` where there is no such node; `NotBuilt` where the text spells no symbols, or has a
-    /// comment or a symbol that isn't read so far; `NotFit(0)` where the node is a list; `NotBuilt` where the tree is too deep or
-    /// too large; `NotFit` where the text writes no tree of the sort, with the number of one of its symbols, from 1, or one more
-    /// than it has; `NotFit(0)` where the tree doesn't fit there; `TooDeep` and `TooLarge` with the numbers of the whole new tree.
+    /// these refusals that applies: `NoPlace` where there is no such node; `Lex` where the text spells no symbols, with its first
+    /// fault; `NotFit(0)` where the node is a list; `NotFit` where the text writes no tree of the sort, with the number of one of
+    /// its symbols, from 1, or one more than it has; `NotFit(0)` where the tree is within the limits and doesn't fit there;
+    /// `TooDeep` and `TooLarge` with the numbers of the whole new tree, also where that of the text alone is over a limit.
     pub fn fill<L: Ledger>(
         &mut self,
         alloc: Global,
@@ -142,7 +142,27 @@ impl Session {
         ensures work { StepsOnSymbols text.now work.old work.new }
     {
         match with_text(alloc, self.tree(), path, text, work) {
-            Ok(tree) => self.edit(tree, 0),
+            Ok(made) => self.edit(made),
+            Err(refusal) => self.refuse(refusal),
+        }
+    }
+
+    /// Puts the text in the place of a range of the program's printed text, and makes the program that the whole then writes the
+    /// session's. `BadRange` where an end of the range isn't in that text, or the end precedes the start; then the refusals of
+    /// `load`, of the whole text.
+    pub fn retype<L: Ledger>(
+        &mut self,
+        alloc: Global,
+        range: &Range,
+        text: &[u8],
+        work: &mut Steps<L>,
+    ) -> Result<Accepted, Refusal>
+        ensures now { Edits (Retypes range.now text.now) self.old.now result self.new.now }
+        ensures before { self.new.before ≡ self.old.now }
+        ensures work { StepsOnRange self.old.now.trees.tree range.now text.now work.old work.new }
+    {
+        match with_range(alloc, self.tree(), range, text, work) {
+            Ok(made) => self.edit(made),
             Err(refusal) => self.refuse(refusal),
         }
     }
@@ -161,7 +181,7 @@ impl Session {
     {
         let _ = &work;
         match without_node(alloc, self.tree(), path) {
-            Ok(tree) => self.edit(tree, 0),
+            Ok(made) => self.edit(made),
             Err(refusal) => self.refuse(refusal),
         }
     }
@@ -240,17 +260,17 @@ impl Session {
         Err(refusal)
     }
 
-    // An edit that gives this tree.
-    fn edit(&mut self, tree: Tree, dropped: u64) -> Result<Accepted, Refusal>
-        ensures now { IsEdited self.old.now tree dropped result self.new.now }
+    // An edit that makes this.
+    fn edit(&mut self, made: Made) -> Result<Accepted, Refusal>
+        ensures now { IsEdited self.old.now made result self.new.now }
         ensures before { self.new.before ≡ self.old.now }
     {
-        if self.history.edit(tree).is_err() {
+        if self.history.edit(made.tree).is_err() {
             return Err(Refusal::NoMemory);
         }
         Ok(Accepted {
             count: self.count,
-            dropped,
+            dropped: made.dropped,
         })
     }
 }

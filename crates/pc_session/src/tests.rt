@@ -5,6 +5,8 @@ ghost use Rattle.std.specs.Prelude.{◌≡◌, ◌<◌};
 use crate::accepted::Accepted;
 use crate::session::Session;
 use pc_command::{Refusal, ViewName};
+use pc_lex::LexError;
+use pc_pretty::Range;
 use pc_syntax::{Kind, Path, Sort, Steps};
 use std::alloc::{AllocError, Global};
 use std::marker::Brand;
@@ -27,6 +29,12 @@ const C_SHOWN: &[u8] = b"program c;\nForward.\n";
 
 const COMMENT: &[u8] = b"program a; begin {x} end.";
 
+const FAULTY: &[u8] = b"program a; begin {x end.";
+
+const OPEN_COMMENT: Refusal = Refusal::Lex(LexError::OpenComment(18));
+
+const OPEN_AT_ONCE: Refusal = Refusal::Lex(LexError::OpenComment(1));
+
 // A call of a session.
 #[derive(Clone, Copy, Debug)]
 enum Call {
@@ -34,6 +42,7 @@ enum Call {
     Put(&'static [u8], &'static [u8]),
     Add(&'static [u8], u32, &'static [u8]),
     Fill(&'static [u8], &'static [u8]),
+    Retype([u32; 4], &'static [u8]),
     Cut(&'static [u8]),
     Undo,
     Redo,
@@ -65,6 +74,17 @@ fn refused(call: Call, refusal: Refusal, shown: &'static [u8]) -> Turn {
     }
 }
 
+// From a line and column to before another.
+pub fn range_of(numbers: [u32; 4]) -> Range {
+    let [from_line, from_column, to_line, to_column] = numbers;
+    Range {
+        from_line,
+        from_column,
+        to_line,
+        to_column,
+    }
+}
+
 fn refusal_of<L: Ledger>(
     alloc: Global,
     session: &mut Session,
@@ -85,6 +105,9 @@ fn refusal_of<L: Ledger>(
             Ok(path) => session.fill(alloc, &path, text, work).err(),
             Err(_) => None,
         },
+        Call::Retype(numbers, text) => {
+            session.retype(alloc, &range_of(numbers), text, work).err()
+        }
         Call::Cut(path) => match Path::read(alloc, path) {
             Ok(path) => session.cut(alloc, &path, work).err(),
             Err(_) => None,
@@ -132,7 +155,7 @@ fn undo_and_redo_go_along_the_edits(rt: HostRuntime) -> Result<(), Fail> {
         done(Call::Undo, B_SHOWN),
         done(Call::Undo, A_SHOWN),
         done(Call::Redo, B_SHOWN),
-        refused(Call::Load(COMMENT), Refusal::NotBuilt, B_SHOWN),
+        refused(Call::Load(FAULTY), OPEN_COMMENT, B_SHOWN),
         refused(Call::Load(b"."), Refusal::NotFit(1), B_SHOWN),
         done(Call::Redo, C_SHOWN),
         done(Call::Undo, B_SHOWN),
@@ -237,13 +260,17 @@ fn a_text_is_put_in_the_place_of_a_node(rt: HostRuntime) -> Result<(), Fail> {
         refused(Call::Fill(b"/9", b"{"), Refusal::NoPlace, START_SHOWN),
         refused(Call::Fill(b"/", b"x"), Refusal::NotFit(1), START_SHOWN),
         done(Call::Fill(b"/", B), B_SHOWN),
-        refused(Call::Fill(b"/3/5/1", b"{"), Refusal::NotBuilt, B_SHOWN),
-        refused(Call::Fill(b"/3/5/1", b"{x}"), Refusal::NotBuilt, B_SHOWN),
-        refused(Call::Fill(b"/3/5/1", b"goto"), Refusal::NotBuilt, B_SHOWN),
+        refused(Call::Fill(b"/3/5/1", b"{"), OPEN_AT_ONCE, B_SHOWN),
+        refused(Call::Fill(b"/3/5/1", b"{x}"), Refusal::NotFit(0), B_SHOWN),
+        refused(Call::Fill(b"/3/5/1", b"goto"), Refusal::NotFit(0), B_SHOWN),
         refused(Call::Fill(b"/3/5/1", b""), Refusal::NotFit(0), B_SHOWN),
         refused(Call::Fill(b"/3/5/1", b"x"), Refusal::NotFit(0), B_SHOWN),
-        refused(Call::Fill(b"/3/5/1/1", b"{"), Refusal::NotBuilt, B_SHOWN),
-        refused(Call::Fill(b"/3/5/1/1", b"goto"), Refusal::NotBuilt, B_SHOWN),
+        refused(Call::Fill(b"/3/5/1/1", b"{"), OPEN_AT_ONCE, B_SHOWN),
+        refused(
+            Call::Fill(b"/3/5/1/1", b"goto"),
+            Refusal::NotFit(1),
+            B_SHOWN,
+        ),
         refused(
             Call::Fill(b"/3/5/1/1", b"i :="),
             Refusal::NotFit(3),
@@ -297,7 +324,7 @@ fn revert_takes_back_the_last_call(rt: HostRuntime) -> Result<(), Fail> {
         done(Call::Revert, A_SHOWN),
         done(Call::Redo, B_SHOWN),
         done(Call::Redo, C_SHOWN),
-        refused(Call::Load(COMMENT), Refusal::NotBuilt, C_SHOWN),
+        refused(Call::Load(FAULTY), OPEN_COMMENT, C_SHOWN),
         done(Call::Revert, C_SHOWN),
         done(Call::Undo, B_SHOWN),
         done(Call::Load(A), A_SHOWN),
@@ -317,6 +344,11 @@ fn revert_takes_back_the_last_call(rt: HostRuntime) -> Result<(), Fail> {
 const ACCEPTED: Result<Accepted, Refusal> = Ok(Accepted {
     count: 0,
     dropped: 0,
+});
+
+const DROPPED: Result<Accepted, Refusal> = Ok(Accepted {
+    count: 0,
+    dropped: 1,
 });
 
 // What is answered to a text after another program, and what is shown then.
@@ -339,7 +371,7 @@ fn loaded<L: Ledger>(
 
 #[test]
 fn a_text_is_loaded_or_refused(rt: HostRuntime) -> Result<(), Fail> {
-    let cases: [(&[u8], Result<Accepted, Refusal>, &[u8]); 19] = [
+    let cases: [(&[u8], Result<Accepted, Refusal>, &[u8]); 22] = [
         (A, ACCEPTED, A_SHOWN),
         (C, ACCEPTED, C_SHOWN),
         (
@@ -352,33 +384,52 @@ fn a_text_is_loaded_or_refused(rt: HostRuntime) -> Result<(), Fail> {
             ACCEPTED,
             b"program a;\nvar\n  x, y: (low, mid, high);\n  z: t;\nbegin\nend.\n",
         ),
-        (COMMENT, Err(Refusal::NotBuilt), B_SHOWN),
+        (COMMENT, DROPPED, A_SHOWN),
+        (b"program a; begin end. (* x *)", DROPPED, A_SHOWN),
         (
-            b"program a; begin end. (* x *)",
-            Err(Refusal::NotBuilt),
-            B_SHOWN,
+            b"program a; {one} begin {two} x := {three} 1 end.",
+            DROPPED,
+            b"program a;\n{one}\nbegin\n  {two}\n  x := 1\nend.\n",
         ),
         (
             b"program a; begin goto 1 end.",
-            Err(Refusal::NotBuilt),
+            Err(Refusal::NotFit(5)),
             B_SHOWN,
         ),
         (
             b"program a; begin x := 1 / 2 end.",
-            Err(Refusal::NotBuilt),
+            Err(Refusal::NotFit(8)),
             B_SHOWN,
         ),
         (
             b"program a; label 1; begin end.",
-            Err(Refusal::NotBuilt),
+            Err(Refusal::NotFit(4)),
             B_SHOWN,
         ),
-        (b"program a; begin \0 end.", Err(Refusal::NotBuilt), B_SHOWN),
-        (b"program a; begin { end.", Err(Refusal::NotBuilt), B_SHOWN),
-        (b"program a; begin 'x end.", Err(Refusal::NotBuilt), B_SHOWN),
+        (
+            b"program a; begin \0 end.",
+            Err(Refusal::Lex(LexError::BadByte(18))),
+            B_SHOWN,
+        ),
+        (FAULTY, Err(OPEN_COMMENT), B_SHOWN),
+        (
+            b"program a; begin 'x end.",
+            Err(Refusal::Lex(LexError::OpenString(18))),
+            B_SHOWN,
+        ),
+        (
+            b"program a; begin x := '' end.",
+            Err(Refusal::Lex(LexError::EmptyString(23))),
+            B_SHOWN,
+        ),
         (
             b"program a; begin x := 340282366920938463463374607431768211456 end.",
-            Err(Refusal::NotBuilt),
+            Err(Refusal::Lex(LexError::LongNumeral(23))),
+            B_SHOWN,
+        ),
+        (
+            b". {x} \0 {",
+            Err(Refusal::Lex(LexError::BadByte(7))),
             B_SHOWN,
         ),
         (b"", Err(Refusal::NotFit(1)), B_SHOWN),
@@ -419,8 +470,8 @@ fn a_text_has_any_length_but_its_program_not_any_depth(rt: HostRuntime) -> Resul
     let cases = [
         (1_000_000, 1, ACCEPTED),
         (0, 126, ACCEPTED),
-        (0, 127, Err(Refusal::NotBuilt)),
-        (0, 90_000, Err(Refusal::NotBuilt)),
+        (0, 127, Err(Refusal::TooDeep(257))),
+        (0, 90_000, Err(Refusal::TooDeep(180_003))),
     ];
     for (spaces, blocks, wanted) in cases {
         let text = nested(rt.alloc(), spaces, blocks)?;

@@ -2,6 +2,7 @@ pub mod Blanks
 pub mod Changed
 pub mod CountedSoFar
 pub mod Fewer
+pub mod Measuring
 pub mod More
 pub mod Numerals
 pub mod Opening

@@ -29,6 +29,7 @@ blank_kind class.Body = Hole sort.Statement
 blank_kind class.Arm = Hole sort.Arm
 blank_kind class.Argument = Hole sort.Expression
 blank_kind class.Member = Hole sort.Expression
+blank_kind class.Operand = Hole sort.Expression
 blank_kind class.Expression = Hole sort.Expression
 blank_kind class.Simple = Hole sort.Expression
 blank_kind class.Term = Hole sort.Expression

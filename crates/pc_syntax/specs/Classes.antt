@@ -60,6 +60,12 @@ abbrev pub is_member : Kind → Bool
 is_member Span = true
 is_member k = is_expression k
 
+-- any kind of the sort expression
+abbrev pub is_operand : Kind → Bool
+is_operand Width = true
+is_operand Span = true
+is_operand k = is_expression k
+
 -- an ordinal type
 abbrev pub is_ordinal : Kind → Bool
 is_ordinal Tname = true
@@ -282,6 +288,7 @@ has class.Body k = is_body k
 has class.Arm k = is_arm k
 has class.Argument k = is_argument k
 has class.Member k = is_member k
+has class.Operand k = is_operand k
 has class.Expression k = is_expression k
 has class.Simple k = is_simple k
 has class.Term k = is_term k

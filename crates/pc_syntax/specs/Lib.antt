@@ -6,6 +6,7 @@ pub mod Fits
 pub mod FitsLayout
 pub mod Layout
 pub mod Make
+pub mod Measured
 pub mod Numbers
 pub mod Opening
 pub mod Outline

@@ -75,6 +75,7 @@ impl Class {
             Class::Arm => Kind::Hole(Sort::Arm),
             Class::Argument => Kind::Hole(Sort::Expression),
             Class::Member => Kind::Hole(Sort::Expression),
+            Class::Operand => Kind::Hole(Sort::Expression),
             Class::Expression => Kind::Hole(Sort::Expression),
             Class::Simple => Kind::Hole(Sort::Expression),
             Class::Term => Kind::Hole(Sort::Expression),

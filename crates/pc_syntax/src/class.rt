@@ -1,7 +1,7 @@
 //! Classes: which kinds may stand at a place of a node.
 
 ghost use Rattle.std.specs.Prelude.{◌≡◌};
-ghost use Rattle.pc_syntax.specs.Classes.{has, is_program, is_block, is_constdef, is_typedef, is_vardef, is_routine, is_parameter, is_denoter, is_structured, is_ordinal, is_field, is_constant, is_bare, is_statement, is_body, is_arm, is_argument, is_member, is_expression, is_simple, is_term, is_factor, is_access, is_name, is_heads, is_args, is_params, is_names, is_labels, is_indexes, is_exprs, is_accesses, is_members, is_consts, is_types, is_vars, is_routines, is_fields, is_stmts, is_arms};
+ghost use Rattle.pc_syntax.specs.Classes.{has, is_program, is_block, is_constdef, is_typedef, is_vardef, is_routine, is_parameter, is_denoter, is_structured, is_ordinal, is_field, is_constant, is_bare, is_statement, is_body, is_arm, is_argument, is_member, is_operand, is_expression, is_simple, is_term, is_factor, is_access, is_name, is_heads, is_args, is_params, is_names, is_labels, is_indexes, is_exprs, is_accesses, is_members, is_consts, is_types, is_vars, is_routines, is_fields, is_stmts, is_arms};
 
 use crate::kind::Kind;
 use crate::sort::Sort;
@@ -27,6 +27,7 @@ pub enum Class {
     Arm,
     Argument,
     Member,
+    Operand,
     Expression,
     Simple,
     Term,
@@ -75,6 +76,7 @@ impl Class {
             Class::Arm => is_arm(kind),
             Class::Argument => is_argument(kind),
             Class::Member => is_member(kind),
+            Class::Operand => is_operand(kind),
             Class::Expression => is_expression(kind),
             Class::Simple => is_simple(kind),
             Class::Term => is_term(kind),
@@ -167,6 +169,15 @@ fn is_member(kind: Kind) -> bool
 {
     match kind {
         Kind::Span => true,
+        _ => is_expression(kind),
+    }
+}
+
+fn is_operand(kind: Kind) -> bool
+    ensures { result ≡ is_operand kind }
+{
+    match kind {
+        Kind::Width | Kind::Span => true,
         _ => is_expression(kind),
     }
 }

@@ -306,3 +306,59 @@ fn a_template_has_these_words_and_holes(rt: HostRuntime) -> Result<(), Fail> {
     }
     Ok(())
 }
+
+/// The numbers of the tree with a piece of these levels and nodes at the path.
+fn measured(
+    alloc: Global,
+    tree: &Tree,
+    path: &[u8],
+    depth: u32,
+    size: u64,
+) -> (Option<u32>, Option<u64>) {
+    match Path::read(alloc, path) {
+        Ok(path) => (tree.depth_with(&path, depth), tree.size_with(&path, size)),
+        Err(_) => (None, None),
+    }
+}
+
+#[test]
+fn a_tree_is_measured_with_a_piece(rt: HostRuntime) -> Result<(), Fail> {
+    let mut tree = hole(rt.alloc(), Sort::Program)?;
+    for (path, name) in [
+        (b"/".as_slice(), b"program".as_slice()),
+        (b"/3", b"block"),
+        (b"/3/5", b"compound"),
+    ] {
+        if let Ok(new) = changed(rt.alloc(), &tree, path, name) {
+            tree = new;
+        }
+    }
+    let last = u32::MAX;
+    let most = u64::MAX;
+    let cases: [(&[u8], u32, u64, Option<u32>, Option<u64>); 13] = [
+        (b"/", 1, 1, Some(1), Some(1)),
+        (b"/", 300, 2_000_000, Some(300), Some(2_000_000)),
+        (b"/", last, most, Some(last), Some(most)),
+        (b"/1", 1, 1, Some(5), Some(11)),
+        (b"/1", 5, 3, Some(6), Some(13)),
+        (b"/3", 1, 1, Some(2), Some(4)),
+        (b"/3/5/1/1", 1, 1, Some(5), Some(11)),
+        (b"/3/5/1/1", 256, 1_000_000, Some(260), Some(1_000_010)),
+        (
+            b"/3/5/1/1",
+            last - 5,
+            most - 11,
+            Some(last - 1),
+            Some(most - 1),
+        ),
+        (b"/3/5/1/1", last - 4, most - 10, Some(last), Some(most)),
+        (b"/3/5/1/1", last, most, Some(last), Some(most)),
+        (b"/3/5/1/2", 1, 1, None, None),
+        (b"/9", 1, 1, None, None),
+    ];
+    for (path, depth, size, levels, nodes) in cases {
+        let got = measured(rt.alloc(), &tree, path, depth, size);
+        assert_eq!(rt; got, (levels, nodes), "{path:?} {depth}");
+    }
+    Ok(())
+}

@@ -138,6 +138,21 @@ impl Tree {
         let text = Text::new(alloc, word, Vec::new(alloc))?;
         Tree::of_text(alloc, kind, text, kids)
     }
+
+    /// A node that is known to be well formed and within the limits, with notes.
+    pub fn of_noted(
+        alloc: Global,
+        kind: Kind,
+        word: &[u8],
+        notes: Vec<Note>,
+        kids: Vec<Tree>,
+    ) -> Result<Tree, AllocError>
+        requires { IsProper (node kind word.now notes.items kids.items) }
+        ensures { IfOk result (λ tree. tree ≡ node kind word.now notes.items kids.items) }
+    {
+        let text = Text::new(alloc, word, notes)?;
+        Tree::of_text(alloc, kind, text, kids)
+    }
 }
 
 /// The hole of a sort.

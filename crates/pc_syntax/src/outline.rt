@@ -141,7 +141,7 @@ fn is_last_open_with(trees: &[Tree], i: usize, so: bool) -> bool
 }
 
 /// The levels of the deepest of these trees, if the one at `i` had so many.
-fn deepest_with(trees: &[Tree], i: usize, depth: u32) -> u32
+pub fn deepest_with(trees: &[Tree], i: usize, depth: u32) -> u32
     ensures { result ≡ largest (slice_set (map depth_of trees.now) i depth) }
 {
     let mut deepest = 0u32;

@@ -3,7 +3,7 @@ use Rattle.std.specs.Prelude.{◌≡◌, ℕ, List, [], ◌⊎◌, Option, Some,
 use Rattle.std.proofs.Common.{inl, inr, refl}
 use Rattle.pc_script.specs.declared.given.Given.{Given}
 use Rattle.pc_command.specs.declared.command.Command.{Command}
-use Rattle.pc_command.specs.declared.command.Command.TheVariants.{Load, Put, Add, Fill, Cut, Undo, Redo, Show}
+use Rattle.pc_command.specs.declared.command.Command.TheVariants.{Load, Put, Add, Fill, Retype, Cut, Undo, Redo, Show}
 use Rattle.pc_command.specs.declared.error.CommandError.{CommandError}
 use Rattle.pc_command.specs.declared.answer.Answer.{Answer}
 use Rattle.pc_command.specs.declared.answer.Answer.TheVariants.{Edited, Done, Shown, Refused, Wrong}
@@ -13,7 +13,7 @@ use Rattle.pc_command.specs.Lines.{reading}
 use Rattle.pc_command.specs.Replies.{reply_of}
 use Rattle.pc_session.specs.declared.accepted.Accepted.{Accepted}
 use Rattle.pc_session.specs.PlainSession.{PlainSession}
-use Rattle.pc_session.specs.Editing.{Writes, Puts, Adds, Fills, Cuts}
+use Rattle.pc_session.specs.Editing.{Writes, Retypes, Puts, Adds, Fills, Cuts}
 use Rattle.pc_session.specs.Commands.{Edits, IsUndone, IsRedone, shown}
 use Rattle.pecan.specs.State.{State}
 
@@ -51,6 +51,7 @@ Does (Load text) s answer t = AnswersEdit (λ result. Edits (Writes text) s resu
 Does (Put path template) s answer t = AnswersEdit (λ result. Edits (Puts path template) s result t) answer
 Does (Add path number template) s answer t = AnswersEdit (λ result. Edits (Adds path number template) s result t) answer
 Does (Fill path text) s answer t = AnswersEdit (λ result. Edits (Fills path text) s result t) answer
+Does (Retype range text) s answer t = AnswersEdit (λ result. Edits (Retypes range text) s result t) answer
 Does (Cut path) s answer t = AnswersEdit (λ result. Edits (Cuts path) s result t) answer
 Does Undo s answer t = AnswersMove (λ result. IsUndone s result t) answer
 Does Redo s answer t = AnswersMove (λ result. IsRedone s result t) answer

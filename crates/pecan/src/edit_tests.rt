@@ -90,7 +90,7 @@ fn elements_are_added_and_texts_filled_in(rt: HostRuntime) -> Result<(), Fail> {
         ),
         (
             b"fill /3/5/1 x\nfill /3/5/1/1 i :=\nfill /1 1\nfill /9 x\nfill /3/5/1/1/2 1:2\nfill /3/5/1 {x}\nfill /3/5/1/1 if\n",
-            b"refused: does not fit here\nrefused: does not fit at symbol 3\nrefused: does not fit at symbol 1\nrefused: no such place\nrefused: does not fit here\nrefused: not built yet\nrefused: does not fit at symbol 2\n",
+            b"refused: does not fit here\nrefused: does not fit at symbol 3\nrefused: does not fit at symbol 1\nrefused: no such place\nrefused: does not fit here\nrefused: does not fit here\nrefused: does not fit at symbol 2\n",
         ),
         (
             b"fill x <<E\nundo\nE\nfill /3/5/1 <<E\nundo\nE\nfill /3/3/1 <<E\nj, k: (one,\n  two);\nE\nfill / <<E\n",
@@ -115,7 +115,7 @@ fn elements_are_added_and_texts_filled_in(rt: HostRuntime) -> Result<(), Fail> {
 
 #[test]
 fn a_line_that_is_no_command_says_why(rt: HostRuntime) -> Result<(), Fail> {
-    let cases: [(&[u8], &[u8]); 38] = [
+    let cases: [(&[u8], &[u8]); 42] = [
         (b"frob", b"refused: unknown command\n"),
         (b"show frob", b"refused: unknown command\n"),
         (b"watch frob", b"refused: unknown command\n"),
@@ -144,6 +144,10 @@ fn a_line_that_is_no_command_says_why(rt: HostRuntime) -> Result<(), Fail> {
         (b"fill", b"refused: missing\n"),
         (b"add / 1 a b", b"refused: extra\n"),
         (b"add / 1 program", b"refused: no such place\n"),
+        (b"retype", b"refused: missing\n"),
+        (b"retype x y", b"refused: bad number\n"),
+        (b"retype 1:1-1 x", b"refused: bad number\n"),
+        (b"retype 1:0-1:1 x", b"refused: bad number\n"),
         (b"put", b"refused: missing\n"),
         (b"put /", b"refused: missing\n"),
         (b"cut / x", b"refused: extra\n"),

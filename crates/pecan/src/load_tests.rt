@@ -11,8 +11,6 @@ const COUNTING_SHOWN: &[u8] =
 
 const LOADED: &[u8] = b"ok 0\n";
 
-const NOT_BUILT: &[u8] = b"refused: not built yet\n";
-
 // The command that loads the text.
 fn load(script: &mut Vec<u8>, text: &[u8]) -> Result<(), Fail> {
     script.extend_from_slice(b"load <<E\n")?;
@@ -66,22 +64,84 @@ fn a_program_is_loaded_and_shown_and_what_is_shown_is_that_program(
 }
 
 #[test]
+fn comments_are_kept_or_counted(rt: HostRuntime) -> Result<(), Fail> {
+    let cases: [(&[u8], &[u8]); 6] = [
+        (
+            b"program a; begin {x} end.",
+            b"ok 0 dropped 1\nprogram a;\nbegin\nend.\n",
+        ),
+        (
+            b"program a; begin end. (* x *)",
+            b"ok 0 dropped 1\nprogram a;\nbegin\nend.\n",
+        ),
+        (
+            b"program a; {one} begin {two} x := {three} 1 end.",
+            b"ok 0 dropped 1\nprogram a;\n{one}\nbegin\n  {two}\n  x := 1\nend.\n",
+        ),
+        (
+            b"{a} (* b *) program {c} a {d} ; {e} begin end. {f}",
+            b"ok 0 dropped 3\n{a}\n(* b *)\nprogram a;\n{e}\nbegin\nend.\n",
+        ),
+        (
+            b"program a; {x} var {y} i {z} : t; begin end.",
+            b"ok 0 dropped 1\nprogram a;\n{x}\nvar\n  {y}\n  i: t;\nbegin\nend.\n",
+        ),
+        (
+            b"program a; begin if {x} b then {y} p else {z} q end.",
+            b"ok 0 dropped 1\nprogram a;\nbegin\n  if b then\n    {y}\n    p\n  else\n    {z}\n    q\nend.\n",
+        ),
+    ];
+    for (text, written) in &cases {
+        let mut script = Vec::new(rt.alloc());
+        load(&mut script, text)?;
+        script.extend_from_slice(b"show syntax\n")?;
+        let got = replies::<Brand>(rt.alloc(), script, Blank::new(1))?;
+        assert!(rt; got.as_slice() == *written, "{text:?}");
+    }
+    Ok(())
+}
+
+#[test]
 fn a_text_that_is_refused_leaves_the_program(rt: HostRuntime) -> Result<(), Fail> {
     let cases: [(&[u8], &[u8]); 16] = [
-        (b"program a; begin {x} end.", NOT_BUILT),
-        (b"program a; begin end. (* x *)", NOT_BUILT),
-        (b"program a; begin goto 1 end.", NOT_BUILT),
-        (b"program a; var f: file of t; begin end.", NOT_BUILT),
-        (b"program a; begin x := 1 / 2 end.", NOT_BUILT),
-        (b"goto label file", NOT_BUILT),
-        (b"program a; label 1; begin end.", NOT_BUILT),
-        (b"program a; begin \0 end.", NOT_BUILT),
-        (b"program a; begin { end.", NOT_BUILT),
-        (b"program a; begin 'x end.", NOT_BUILT),
+        (
+            b"program a; begin goto 1 end.",
+            b"refused: does not fit at symbol 5\n",
+        ),
+        (
+            b"program a; var f: file of t; begin end.",
+            b"refused: does not fit at symbol 7\n",
+        ),
+        (
+            b"program a; begin x := 1 / 2 end.",
+            b"refused: does not fit at symbol 8\n",
+        ),
+        (b"goto label file", b"refused: does not fit at symbol 1\n"),
+        (
+            b"program a; label 1; begin end.",
+            b"refused: does not fit at symbol 4\n",
+        ),
+        (
+            b"program a; begin \0 end.",
+            b"refused: bad character at byte 18\n",
+        ),
+        (
+            b"program a; begin { end.",
+            b"refused: comment not closed at byte 18\n",
+        ),
+        (
+            b"program a; begin 'x end.",
+            b"refused: string not closed at byte 18\n",
+        ),
+        (
+            b"program a; begin x := '' end.",
+            b"refused: empty string at byte 23\n",
+        ),
         (
             b"program a; begin x := 340282366920938463463374607431768211456 end.",
-            NOT_BUILT,
+            b"refused: number too long at byte 23\n",
         ),
+        (b"end {x} \0 { '", b"refused: bad character at byte 9\n"),
         (b"", b"refused: does not fit at symbol 1\n"),
         (b".", b"refused: does not fit at symbol 1\n"),
         (
@@ -159,6 +219,30 @@ fn parentheses(count: usize, reply: &'static [u8]) -> Repeated {
     }
 }
 
+fn comments(count: usize, reply: &'static [u8]) -> Repeated {
+    Repeated {
+        before: b"program a; begin {",
+        left: b"x",
+        count,
+        middle: b"} end.",
+        right: b"",
+        after: b"",
+        reply,
+    }
+}
+
+fn statements(count: usize, reply: &'static [u8]) -> Repeated {
+    Repeated {
+        before: b"program a; begin ",
+        left: b"x;",
+        count,
+        middle: b"end.",
+        right: b"",
+        after: b"",
+        reply,
+    }
+}
+
 fn text_of(alloc: Global, parts: &Repeated) -> Result<Vec<u8>, Fail> {
     let mut text = parts.before.to_vec(alloc)?;
     for _i in 0..parts.count {
@@ -178,11 +262,14 @@ fn a_text_that_is_too_long_or_too_deep_is_refused(rt: HostRuntime) -> Result<(),
         spaced(999_978, LOADED),
         spaced(999_979, b"refused: too long\n"),
         compounds(126, LOADED),
-        compounds(127, NOT_BUILT),
-        compounds(90_000, NOT_BUILT),
+        compounds(127, b"refused: too deep 257\n"),
+        compounds(90_000, b"refused: too deep 180003\n"),
         parentheses(250, LOADED),
-        parentheses(251, NOT_BUILT),
-        parentheses(100_000, NOT_BUILT),
+        parentheses(251, b"refused: too deep 257\n"),
+        comments(999_975, b"ok 0 dropped 1\n"),
+        comments(999_976, b"refused: too long\n"),
+        statements(400_000, b"refused: too large 1200011\n"),
+        parentheses(100_000, b"refused: too deep 100006\n"),
     ];
     for parts in &cases {
         let text = text_of(rt.alloc(), parts)?;

@@ -16,6 +16,8 @@ mod run;
 mod status;
 #[cfg(test)]
 mod tests;
+#[cfg(test)]
+mod text_tests;
 
 use crate::run::pecan;
 use crate::status::Status;

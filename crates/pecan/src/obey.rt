@@ -88,6 +88,7 @@ fn perform<L: Ledger>(
             edited(session.add(alloc, path, *number, template.bytes(), work))
         }
         Command::Fill(path, text) => edited(session.fill(alloc, path, text.bytes(), work)),
+        Command::Retype(range, text) => { edited(session.retype(alloc, range, text.bytes(), work)) }
         Command::Cut(path) => edited(session.cut(alloc, path, work)),
         Command::Undo => moved(session.undo(work)),
         Command::Redo => moved(session.redo(work)),

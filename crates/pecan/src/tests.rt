@@ -119,7 +119,7 @@ fn a_script_gets_these_replies_and_this_status(rt: HostRuntime) -> Result<(), Fa
         ),
         sound(
             b"load <<E\ngoto\nE\nshow syntax\n",
-            b"refused: not built yet\n?program\n",
+            b"refused: does not fit at symbol 1\n?program\n",
         ),
         sound(b"  load <<End\nprogram a; forward.\nEnd", b"ok 0\n"),
         sound(b"load <<E\nprogram a; forward.\n", MISSING),

@@ -54,4 +54,4 @@ returns-in-Refused-clause-ends g c =
     turn (class_of c.args.sort) c.class_of-root.result c.args.symbols.now c.reading.at (state_view c.reading.position (stack c.reading.below.items))
     (outcome_view c.in-Ok.outcome (stack c.step.new.below.items)) c.next_lexeme-next.result c.next_word-word.result.now c.rest_of-rest.result.now
     c.reading.invariant.reached c.in-Ok.ensures c.reading.invariant.root c.next_lexeme-next.ensures c.next_word-word.ensures c.rest_of-rest.ensures in
-    missed c.args.sort c.args.symbols.now c.reading.at _ _ c.reading.invariant.within t (ap (λ o. outcome_view o (stack c.step.new.below.items)) c.in-Refused.is)
+    missed c.args.sort c.args.symbols.now c.reading.at _ _ c.requires c.reading.invariant.within t (ap (λ o. outcome_view o (stack c.step.new.below.items)) c.in-Refused.is)

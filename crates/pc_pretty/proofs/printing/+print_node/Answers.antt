@@ -15,8 +15,9 @@ node_items-requires t c = rw (c.kind-kind.ensures.value, c.word-word.ensures, c.
 pub loop-n-init : goal.loop-n-init
 loop-n-init t c =
     rw (c.kind-kind.ensures.value, c.word-word.ensures, c.kid_slice-kids.ensures.value, c.inner-indentation.ensures, c.as_slice-item-items.ensures)
-    (starts c.args.tree.now c.args.place (items_of c.in_ok-items.items) c.args.out.now.items c.kind-kind.ensures.proper
-    (rw (c.kind-kind.ensures.value, c.word-word.ensures, c.kid_slice-kids.ensures.value) at c.in_ok-items.ensures))
+    (starts c.args.tree.now c.args.place (items_of c.in_ok-items.items) c.args.out.now.items c.push_notes.new.out.items c.in_ok-push_notes.field-0 c.kind-kind.ensures.proper
+    (rw (c.kind-kind.ensures.value, c.word-word.ensures, c.kid_slice-kids.ensures.value) at c.in_ok-items.ensures)
+    (rw c.notes.ensures at c.in_ok-push_notes.ensures.text) (rw c.notes.ensures at c.in_ok-push_notes.ensures.behind))
 
 pub push_symbol-requires : goal.push_symbol-requires
 push_symbol-requires t c =
