@@ -1,5 +1,5 @@
 #!/usr/bin/env python3
-"""Measures `load`, `show syntax` and one `fill` on 1,000,000 bytes of ordinary mixed Pascal.
+"""Measures `load`, `show syntax`, one `fill` and one `retype` on 1,000,000 bytes of ordinary mixed Pascal.
 
     bench/mixed.py [PROGRAM]
 
@@ -153,6 +153,8 @@ def main():
     print('show syntax: %.4f s%s (over five, %.0f MB)' % ((shown - took) / 5, ratio((shown - took) / 5), memory))
     filled, memory, out = run([PROGRAM], load + b'fill /3/5/1/1 total := total + 1\n' * 20)
     print('fill of one statement: %.5f s, ratio to a load %.4f; %s' % ((filled - took) / 20, (filled - took) / 20 / took, out.decode().split('\n')[-2]))
+    retyped, memory, out = run([PROGRAM], load + b'retype 1:9-1:14 other\nretype 1:9-1:14 mixed\n' * 2)
+    print('retype of a name: %.4f s, ratio to a load %.2f, %.0f MB; %s' % ((retyped - took) / 4, (retyped - took) / 4 / took, memory, out.decode().split('\n')[-2]))
 
 
 if __name__ == '__main__':
