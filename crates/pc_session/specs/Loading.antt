@@ -35,7 +35,7 @@ pub record Drops (text : List ℕ) (tree : Plain) (dropped : ℕ) : Type 0 where
   pub spells : Spells text symbols tail
   pub counted : dropped + notes_of tree ≡ comments_in symbols tail
 
--- The text spells symbols, but no tree of the class has them. The number is that of one of them, from 1, or one more than there are.
+-- The text spells symbols, but no tree of the class has them. The number is the least k such that the first k of them begin no text of the class, or one more than there are.
 pub record IsMisfit (c : Class) (text : List ℕ) (number : ℕ) : Type 0 where
   pub symbols : List PlainSymbol
   pub tail : List Span
