@@ -3,14 +3,14 @@ use Rattle.std.specs.Prelude.{◌≡◌, ◌-◌, ◌^◌, ◌<◌, ◌≤◌, m
 use Rattle.pc_syntax.specs.declared.error.EditError.{EditError}
 use Rattle.pc_syntax.specs.declared.error.EditError.TheVariants.{NoPlace, NotFit, TooDeep, TooLarge, NoMemory}
 use Rattle.pc_syntax.specs.Plain.{Plain}
-use Rattle.pc_syntax.specs.WellFormed.{size_of, depth_of, size_limit, IsWellFormed, IsProper}
+use Rattle.pc_syntax.specs.WellFormed.{size_of, depth_of, depth_limit, size_limit, IsWellFormed, IsProper}
 
 -- why a tree was not made: the first rule that it breaks, or want of memory where it breaks none
 abbrev pub Refuses : Plain → EditError → Type 0
 Refuses p NoPlace = ⊥
 Refuses p NotFit = ¬ IsWellFormed p
-Refuses p (TooDeep d) = IsWellFormed p × (256 < depth_of p) × (d ≡ min (depth_of p) (2 ^ 32 - 1))
-Refuses p (TooLarge n) = IsWellFormed p × (depth_of p ≤ 256) × (size_limit < size_of p) × (n ≡ min (size_of p) (2 ^ 64 - 1))
+Refuses p (TooDeep d) = IsWellFormed p × (depth_limit < depth_of p) × (d ≡ min (depth_of p) (2 ^ 32 - 1))
+Refuses p (TooLarge n) = IsWellFormed p × (depth_of p ≤ depth_limit) × (size_limit < size_of p) × (n ≡ min (size_of p) (2 ^ 64 - 1))
 Refuses p NoMemory = IsProper p
 
 -- the tree, which is proper, or why it was not made

@@ -91,6 +91,10 @@ holes_in (Cons k w ns ks ts) = (if is_hole k then 1 else 0) + holes_in ks + hole
 abbrev pub holes_of : Plain → ℕ
 holes_of p = (if is_hole p.kind then 1 else 0) + holes_in p.kids
 
+-- the most levels of a tree
+abbrev pub depth_limit : ℕ
+depth_limit = 256
+
 -- the most nodes of a tree
 unfoldable pub size_limit : ℕ
 size_limit = 1000000
@@ -102,5 +106,5 @@ size_limit-is = refl
 -- a tree that may be made: well formed and within the limits
 pub record IsProper (p : Plain) : Type 0 where
   pub sound : IsWellFormed p
-  pub shallow : depth_of p ≤ 256
+  pub shallow : depth_of p ≤ depth_limit
   pub small : size_of p ≤ size_limit

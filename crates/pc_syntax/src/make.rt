@@ -4,12 +4,13 @@ ghost use Rattle.std.specs.Prelude.{◌≡◌, ◌+◌, ◌-◌, ◌^◌, ◌≤
 ghost use Rattle.pc_syntax.specs.declared.kind.Kind.TheVariants.{Hole};
 ghost use Rattle.pc_syntax.specs.Plain.{Plain, forest_of, node};
 ghost use Rattle.pc_syntax.specs.Make.{Admits, Answers};
-ghost use Rattle.pc_syntax.specs.WellFormed.{size_of, depth_of, holes_of, opens, last_open, size_limit, WellFormed, IsWellFormed, IsProper};
+ghost use Rattle.pc_syntax.specs.WellFormed.{size_of, depth_of, holes_of, opens, last_open, WellFormed, IsWellFormed, IsProper};
 ghost use Rattle.pc_syntax.specs.Parts.{largest, hole_count};
 
 use crate::error::EditError;
 use crate::fits::node_fits;
 use crate::kind::Kind;
+use crate::limits::{depth_limit, size_limit};
 use crate::note::Note;
 use crate::sort::Sort;
 use crate::text::Text;
@@ -68,19 +69,12 @@ pub fn is_last_open(trees: &[Tree]) -> bool
     }
 }
 
-/// The most nodes of a tree.
-fn size_limit() -> u64
-    ensures { result ≡ size_limit }
-{
-    1_000_000
-}
-
 impl Counts {
     /// What keeps a well-formed tree with these counts from being made, if anything does.
     pub fn admit(&self) -> Result<(), EditError>
         ensures { (p : Plain) → IsWellFormed p → self.now.depth ≡ depth_of p → self.now.size ≡ min (size_of p) (2 ^ 64 - 1) → Admits p result }
     {
-        if self.depth > 256 {
+        if self.depth > depth_limit() {
             return Err(EditError::TooDeep(self.depth));
         }
         if self.size > size_limit() {

@@ -1,6 +1,6 @@
 use Rattle.std.proofs.Common.{sym}
 use Rattle.pc_syntax.specs.WellFormed.{size_limit-is}
-use Rattle.pc_syntax.proofs.make.size_limit.Goals as goal
+use Rattle.pc_syntax.proofs.limits.size_limit.Goals as goal
 
 pub returns : goal.returns
 returns c = sym size_limit-is
