@@ -9,7 +9,7 @@ use Rattle.pc_lex.specs.declared.symbol.SymbolKind.{SymbolKind}
 use Rattle.pc_lex.specs.declared.symbol.Symbol as code
 use Rattle.pc_lex.specs.declared.front.Front.TheVariants.{End, Blank, Comment, Symbol, Fault}
 use Rattle.pc_lex.specs.Fronts.{Within, byte_of}
-use Rattle.pc_lex.specs.Lengths.{front_within}
+use Rattle.pc_lex.specs.LengthLaws.{front_within}
 use Rattle.pc_lex.specs.Spells.{PlainSymbol, front_at, Blanks, Gap, IsSymbol, Leads, Spells, moved, FirstFault}
 use Rattle.pc_lex.specs.Views.{plain_symbol, plain_symbols}
 

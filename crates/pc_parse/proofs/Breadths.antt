@@ -13,7 +13,7 @@ use Rattle.pc_syntax.specs.declared.lexeme.Lexeme.TheVariants as lexeme
 use Rattle.pc_syntax.specs.declared.item.Item.{Item}
 use Rattle.pc_syntax.specs.declared.item.Item.TheVariants.{Literal, Word, Kid}
 use Rattle.pc_syntax.specs.Plain.{Forest, Plain, trees_of, kids_of, count, kinds}
-use Rattle.pc_syntax.specs.Parts.{length-kids_of, kids_of-is}
+use Rattle.pc_syntax.specs.PartsLaws.{length-kids_of, kids_of-is}
 use Rattle.pc_syntax.specs.Symbols.{fill_some, texts}
 use Rattle.pc_syntax.specs.Layout.{layout, wordless, spelled, operator, around, further, elements, some_elements}
 use Rattle.pc_syntax.specs.WellFormed.{fits, fits_some, IsWellFormed}

@@ -2,7 +2,7 @@
 use Rattle.std.proofs.Common.{◌≡◌, ℕ, List, [], sym}
 use Rattle.pc_syntax.specs.declared.kind.Kind.{Kind}
 use Rattle.pc_syntax.specs.Plain.{Plain, node, kids_of}
-use Rattle.pc_syntax.specs.Parts.{node-parts}
+use Rattle.pc_syntax.specs.PartsLaws.{node-parts}
 
 pub leaf_is : (p : Plain) (k : Kind) (w : List ℕ) → p.kind ≡ k → p.word ≡ w → p.notes ≡ [] → kids_of p ≡ [] → p ≡ node k w [] []
 leaf_is p k w a b c d = rw (← a, ← b, ← c, ← d) (sym (node-parts p))

@@ -9,8 +9,8 @@ use Rattle.pc_lex.specs.declared.symbol.Symbol.{Symbol}
 use Rattle.pc_lex.specs.declared.symbol.Lexed.{Lexed}
 use Rattle.pc_lex.specs.declared.front.Front.TheVariants.{Comment}
 use Rattle.pc_lex.specs.Fronts.{Within}
-use Rattle.pc_lex.specs.Lengths.{front_within}
-use Rattle.pc_lex.specs.Relied.{IsComment-comment}
+use Rattle.pc_lex.specs.LengthLaws.{front_within}
+use Rattle.pc_lex.specs.ReliedLaws.{IsComment-comment}
 use Rattle.pc_lex.specs.Spells.{PlainSymbol, IsComment, Gap, Leads}
 use Rattle.pc_lex.specs.Views.{IsLexed, plain_symbols}
 use Rattle.pc_layout.specs.Noted.{Notes, first_notes, keeps_notes, own_notes}

@@ -12,7 +12,7 @@ use Rattle.pc_lex.specs.declared.symbol.Symbol.{Symbol}
 use Rattle.pc_lex.specs.declared.symbol.Lexed.{Lexed}
 use Rattle.pc_lex.specs.Views.{IsLexed, plain_symbols, syms}
 use Rattle.pc_lex.specs.Proper as lexed
-use Rattle.pc_lex.specs.Relied.{Spells-proper}
+use Rattle.pc_lex.specs.ReliedLaws.{Spells-proper}
 use Rattle.pc_parse.specs.declared.rows.Cut.{Cut}
 use Rattle.pc_parse.specs.declared.machine.Position.{Position}
 use Rattle.pc_parse.specs.declared.machine.Position.TheVariants as position

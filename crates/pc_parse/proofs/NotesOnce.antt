@@ -19,7 +19,7 @@ use Rattle.pc_syntax.specs.Classes.{has}
 use Rattle.pc_syntax.specs.Slots.{is_list, places_of, class_from}
 use Rattle.pc_syntax.specs.Sorts.{bears_notes}
 use Rattle.pc_syntax.specs.Fits.{word_fits, takes_count, takes, takes_from}
-use Rattle.pc_syntax.specs.FitsLayout.{layout-forest}
+use Rattle.pc_syntax.specs.FitsLayoutLaws.{layout-forest}
 use Rattle.pc_syntax.specs.WellFormed.{fits, fits_some, takes_notes, WellFormed, IsWellFormed}
 use Rattle.pc_lex.specs.declared.symbol.Span.{Span}
 use Rattle.pc_lex.specs.Spells.{PlainSymbol}

@@ -14,7 +14,8 @@ use Rattle.pc_syntax.specs.declared.item.Item.TheVariants.{Literal, Word, Kid}
 use Rattle.pc_syntax.specs.Classes.{has}
 use Rattle.pc_syntax.specs.Plain.{Plain, node, forest_of}
 use Rattle.pc_syntax.specs.WellFormed.{size_in, size_of, depth_in, depth_of, size_limit, size_limit-is}
-use Rattle.pc_syntax.specs.Parts.{largest, node-is, size_in-forest_of, depth_in-forest_of}
+use Rattle.pc_syntax.specs.Parts.{largest}
+use Rattle.pc_syntax.specs.PartsLaws.{node-is, size_in-forest_of, depth_in-forest_of}
 use Rattle.pc_parse.specs.declared.rows.Cut.{Cut}
 use Rattle.pc_parse.specs.Lookahead.{same_at}
 use Rattle.pc_parse.specs.Tables.{Start, Leaf, Open, Predict, Blank, NoStart, start, Grow, Give, Wrap, Shift, Enter, grow, switch, recast, closes, again}

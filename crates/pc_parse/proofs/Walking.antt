@@ -7,7 +7,7 @@ use Rattle.pc_syntax.specs.declared.kind.Kind.{Kind}
 use Rattle.pc_syntax.specs.declared.item.Item.{Item}
 use Rattle.pc_syntax.specs.declared.item.Item.TheVariants.{Literal, Word, Kid}
 use Rattle.pc_syntax.specs.Plain.{Forest, Nil, Cons, Plain, trees_of, forest_of, kids_of, node, count, kinds}
-use Rattle.pc_syntax.specs.Parts.{length-kids_of, kids_of-is, node-is, forest_of-trees_of, same-parts}
+use Rattle.pc_syntax.specs.PartsLaws.{length-kids_of, kids_of-is, node-is, forest_of-trees_of, same-parts}
 use Rattle.pc_syntax.specs.Layout.{layout}
 use Rattle.pc_syntax.specs.Symbols.{fill, fill_some, texts}
 use Rattle.pc_syntax.specs.WellFormed.{fits, fits_some, IsProper}

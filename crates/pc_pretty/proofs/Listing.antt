@@ -8,7 +8,7 @@ use Rattle.pc_syntax.specs.declared.class.Class.{Class}
 use Rattle.pc_syntax.specs.declared.item.Item.{Item}
 use Rattle.pc_syntax.specs.declared.item.Item.TheVariants.{Literal, Word, Kid}
 use Rattle.pc_syntax.specs.Plain.{Forest, Nil, Cons, Plain, trees_of, kids_of, count}
-use Rattle.pc_syntax.specs.Parts.{length-kids_of}
+use Rattle.pc_syntax.specs.PartsLaws.{length-kids_of}
 use Rattle.pc_syntax.specs.Layout.{layout}
 use Rattle.pc_syntax.specs.Classes.{has}
 use Rattle.pc_syntax.specs.Symbols.{fill, fill_some, texts, symbols, symbols_of}

@@ -9,7 +9,7 @@ use Rattle.pc_syntax.specs.declared.kind.Kind.{Kind}
 use Rattle.pc_syntax.specs.declared.item.Item.{Item}
 use Rattle.pc_syntax.specs.declared.item.Item.TheVariants.{Literal, Word, Kid}
 use Rattle.pc_syntax.specs.Plain.{Forest, Nil, Cons, Plain, trees_of, kids_of, count, kinds}
-use Rattle.pc_syntax.specs.Parts.{length-kids_of, kids_of-is, size_of-kids}
+use Rattle.pc_syntax.specs.PartsLaws.{length-kids_of, kids_of-is, size_of-kids}
 use Rattle.pc_syntax.specs.Layout.{layout}
 use Rattle.pc_syntax.specs.Classes.{has}
 use Rattle.pc_syntax.specs.Places.{at}

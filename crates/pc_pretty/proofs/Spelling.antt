@@ -14,7 +14,7 @@ use Rattle.pc_lex.specs.declared.symbol.Span.{Span}
 use Rattle.pc_lex.specs.declared.front.Front.TheVariants.{Blank}
 use Rattle.pc_lex.specs.Fronts.{front}
 use Rattle.pc_lex.specs.Spells.{PlainSymbol, front_at, Blanks, Gap}
-use Rattle.pc_lex.specs.Composing.{symbol_at, symbol_at-is, SpellsFrom-cons, SpellsFrom-end}
+use Rattle.pc_lex.specs.ComposingLaws.{symbol_at, symbol_at-is, SpellsFrom-cons, SpellsFrom-end}
 use Rattle.pc_lex.specs.Views.{lexeme_of, kept, syms}
 use Rattle.pc_lex.specs.Proper.{IsProper}
 use Rattle.pc_layout.specs.Noted.{Notes}

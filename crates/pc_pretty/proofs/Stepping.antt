@@ -7,7 +7,8 @@ use Rattle.std.proofs.lemmas.List.{drop_more}
 use Rattle.std.proofs.lemmas.List.Sums.{sum_by_push, sum_by-take-drop, sum_by-cons}
 use Rattle.std.proofs.lemmas.Option.{same_Some, slice_get_within, get_or_from_slice_get}
 use Rattle.pc_syntax.specs.Plain.{Plain, kids_of}
-use Rattle.pc_syntax.specs.Parts.{kid_at, size_of-kids}
+use Rattle.pc_syntax.specs.Parts.{kid_at}
+use Rattle.pc_syntax.specs.PartsLaws.{size_of-kids}
 use Rattle.pc_syntax.specs.Places.{at}
 use Rattle.pc_syntax.specs.WellFormed.{size_of}
 use Rattle.pc_pretty.specs.Preorder.{nodes_before}

@@ -9,7 +9,8 @@ use Rattle.pc_syntax.specs.declared.class.Class.{Class}
 use Rattle.pc_syntax.specs.declared.item.Item.{Item}
 use Rattle.pc_syntax.specs.declared.item.Item.TheVariants.{Literal, Word, Kid}
 use Rattle.pc_syntax.specs.Plain.{Forest, Nil, Cons, Plain, trees_of, kids_of, count, kinds}
-use Rattle.pc_syntax.specs.Parts.{length-kids_of, largest, depth_of-kids}
+use Rattle.pc_syntax.specs.Parts.{largest}
+use Rattle.pc_syntax.specs.PartsLaws.{length-kids_of, depth_of-kids}
 use Rattle.pc_syntax.specs.Layout.{layout}
 use Rattle.pc_syntax.specs.Classes.{has}
 use Rattle.pc_syntax.specs.Spellings.{spelling_of}

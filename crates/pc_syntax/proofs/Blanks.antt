@@ -12,10 +12,11 @@ use Rattle.pc_syntax.specs.Plain.{forest_of, node}
 use Rattle.pc_syntax.specs.Slots.{is_list, places_of}
 use Rattle.pc_syntax.specs.Classes.{has}
 use Rattle.pc_syntax.specs.WellFormed.{size_of, depth_of, opens, second_open, breaks_else_rule, size_limit-is, WellFormed, IsWellFormed, IsProper}
-use Rattle.pc_syntax.specs.Parts.{largest, is_open, kind-node, is_open-node, size_of-node, depth_of-node}
+use Rattle.pc_syntax.specs.Parts.{largest, is_open}
+use Rattle.pc_syntax.specs.PartsLaws.{kind-node, is_open-node, size_of-node, depth_of-node}
 use Rattle.pc_syntax.specs.Fits.{word_fits, takes_count, takes_from, kinds_of, node_fits}
-use Rattle.pc_syntax.specs.FitsLayout.{walk, walk-suc, takes_from-walk}
-use Rattle.pc_syntax.specs.Sound.{fits-sound}
+use Rattle.pc_syntax.specs.FitsLayoutLaws.{walk, walk-suc, takes_from-walk}
+use Rattle.pc_syntax.specs.SoundLaws.{fits-sound}
 use Rattle.pc_syntax.specs.Blanks.{blank_kind, first_hole, holes, blank, fresh}
 
 -- it may stand there

@@ -12,9 +12,10 @@ use Rattle.pc_syntax.specs.declared.kind.Kind.TheVariants.{Ifelse}
 use Rattle.pc_syntax.specs.Plain.{Plain, forest_of, node, kids_of}
 use Rattle.pc_syntax.specs.Slots.{class_from}
 use Rattle.pc_syntax.specs.WellFormed.{size_of, depth_of, takes_notes, opens, last_open, second_open, breaks_else_rule, WellFormed, IsWellFormed, IsProper}
-use Rattle.pc_syntax.specs.Parts.{largest, is_open, kid_at, forest_of-kids_of, node-parts, is_open-node, size_of-node, depth_of-node, size_of-kids, depth_of-kids}
+use Rattle.pc_syntax.specs.Parts.{largest, is_open, kid_at}
+use Rattle.pc_syntax.specs.PartsLaws.{forest_of-kids_of, node-parts, is_open-node, size_of-node, depth_of-node, size_of-kids, depth_of-kids}
 use Rattle.pc_syntax.specs.Fits.{word_fits, takes_count, takes, takes_from, kinds_of, node_fits}
-use Rattle.pc_syntax.specs.Sound.{fits-sound, sound-fits}
+use Rattle.pc_syntax.specs.SoundLaws.{fits-sound, sound-fits}
 use Rattle.pc_syntax.specs.Opening.{breaks_else_rule_at}
 use Rattle.pc_syntax.specs.Places.{at, with_kid, put}
 

@@ -6,8 +6,9 @@ use Rattle.std.proofs.lemmas.List.Recursion.{max_push}
 use Rattle.pc_syntax.specs.Plain.{Plain, forest_of, node}
 use Rattle.pc_syntax.specs.WellFormed.{size_of, depth_of, holes_of, WellFormed, IsProper}
 use Rattle.pc_syntax.specs.declared.kind.Kind.{Kind}
-use Rattle.pc_syntax.specs.Sound.{WellFormed-push}
-use Rattle.pc_syntax.specs.Parts.{largest, hole_count, small-size, size_of-node, depth_of-node, holes_of-node}
+use Rattle.pc_syntax.specs.SoundLaws.{WellFormed-push}
+use Rattle.pc_syntax.specs.Parts.{largest, hole_count}
+use Rattle.pc_syntax.specs.PartsLaws.{small-size, size_of-node, depth_of-node, holes_of-node}
 
 pub record CountedSoFar (own : ℕ) (ks : List Plain) (size depth holes : ℕ) : Type 0 where
   pub size_is : size ≡ min (1 + sum_by size_of ks) (2 ^ 64 - 1)

@@ -16,9 +16,10 @@ use Rattle.pc_syntax.specs.Plain.{Plain, forest_of, node, kids_of}
 use Rattle.pc_syntax.specs.Slots.{is_list, least_of, class_from}
 use Rattle.pc_syntax.specs.Classes.{has, is_names, is_labels, is_indexes, is_exprs, is_accesses, is_fields, is_stmts, is_arms}
 use Rattle.pc_syntax.specs.WellFormed.{size_of, depth_of, takes_notes, opens, last_open, breaks_else_rule, WellFormed, IsWellFormed, IsProper}
-use Rattle.pc_syntax.specs.Parts.{largest, is_open, kid_at, node-parts, kind-node, is_open-node, size_of-node, depth_of-node, size_of-kids, depth_of-kids}
+use Rattle.pc_syntax.specs.Parts.{largest, is_open, kid_at}
+use Rattle.pc_syntax.specs.PartsLaws.{node-parts, kind-node, is_open-node, size_of-node, depth_of-node, size_of-kids, depth_of-kids}
 use Rattle.pc_syntax.specs.Fits.{word_fits, takes_count, takes, takes_from, kinds_of, node_fits}
-use Rattle.pc_syntax.specs.Sound.{fits-sound}
+use Rattle.pc_syntax.specs.SoundLaws.{fits-sound}
 use Rattle.pc_syntax.specs.Opening.{breaks_else_rule_at}
 use Rattle.pc_syntax.specs.Blanks.{blank_kind, first_hole, blank}
 use Rattle.pc_syntax.specs.Places.{at, with_kid}

@@ -9,9 +9,10 @@ use Rattle.pc_syntax.specs.declared.kind.Kind.{Kind}
 use Rattle.pc_syntax.specs.Plain.{Plain, forest_of, kids_of}
 use Rattle.pc_syntax.specs.Slots.{is_list, least_of, class_from}
 use Rattle.pc_syntax.specs.WellFormed.{size_of, depth_of, takes_notes, WellFormed, IsWellFormed, IsProper}
-use Rattle.pc_syntax.specs.Parts.{largest, kid_at, kind-node, is_open-node, size_of-node, depth_of-node, size_of-kids, depth_of-kids}
+use Rattle.pc_syntax.specs.Parts.{largest, kid_at}
+use Rattle.pc_syntax.specs.PartsLaws.{kind-node, is_open-node, size_of-node, depth_of-node, size_of-kids, depth_of-kids}
 use Rattle.pc_syntax.specs.Fits.{word_fits, takes_count, takes, takes_from, kinds_of, node_fits}
-use Rattle.pc_syntax.specs.Sound.{fits-sound, sound-fits}
+use Rattle.pc_syntax.specs.SoundLaws.{fits-sound, sound-fits}
 use Rattle.pc_syntax.specs.Places.{at, put}
 use Rattle.pc_syntax.specs.Edits.{with_more}
 use Rattle.pc_syntax.specs.Outline.{IsOutline}

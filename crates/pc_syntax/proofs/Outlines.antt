@@ -6,7 +6,8 @@ use Rattle.pc_syntax.specs.declared.outline.Outline.{Outline}
 use Rattle.pc_syntax.specs.Plain.{Plain, forest_of, kids_of}
 use Rattle.pc_syntax.specs.Slots.{class_from}
 use Rattle.pc_syntax.specs.WellFormed.{size_of, depth_of, opens, last_open, IsProper}
-use Rattle.pc_syntax.specs.Parts.{largest, kind-node, depth_of-kids}
+use Rattle.pc_syntax.specs.Parts.{largest}
+use Rattle.pc_syntax.specs.PartsLaws.{kind-node, depth_of-kids}
 use Rattle.pc_syntax.specs.Fits.{takes}
 use Rattle.pc_syntax.specs.Opening.{breaks_else_rule_at}
 use Rattle.pc_syntax.specs.Places.{with_kid}

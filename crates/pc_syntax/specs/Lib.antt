@@ -1,9 +1,9 @@
 pub mod Blanks
 pub mod Classes
 pub mod Edits
-pub mod Falls
+pub mod FallsLaws
 pub mod Fits
-pub mod FitsLayout
+pub mod FitsLayoutLaws
 pub mod Layout
 pub mod Make
 pub mod Measured
@@ -11,12 +11,13 @@ pub mod Numbers
 pub mod Opening
 pub mod Outline
 pub mod Parts
+pub mod PartsLaws
 pub mod Paths
 pub mod Places
 pub mod Plain
 pub mod Slots
 pub mod Sorts
-pub mod Sound
+pub mod SoundLaws
 pub mod Spellings
 pub mod Symbols
 pub mod Templates

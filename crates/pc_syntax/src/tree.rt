@@ -50,13 +50,13 @@ impl Model for Tree {
 
     ghost size = { size_of };
 
-    ghost use Rattle.pc_syntax.specs.Falls.{size_falls};
+    ghost use Rattle.pc_syntax.specs.FallsLaws.{size_falls};
 
     ghost size_decreases = { λ a h. size_falls a };
 }
 
 impl Tree {
-    #[tactic(auto, using(crate::specs::Parts::opened))]
+    #[tactic(auto, using(crate::specs::PartsLaws::opened))]
     pub fn kind(&self) -> Kind
         ensures value { result ≡ self.now.kind }
         ensures proper { IsProper self.now }
@@ -65,7 +65,7 @@ impl Tree {
     }
 
     /// Its word, empty where it has none.
-    #[tactic(auto, using(crate::specs::Parts::opened))]
+    #[tactic(auto, using(crate::specs::PartsLaws::opened))]
     pub fn word(&self) -> &[u8]
         ensures { result.now ≡ self.now.word }
     {
@@ -76,7 +76,7 @@ impl Tree {
     }
 
     /// The comments that stand before it, in order.
-    #[tactic(auto, using(crate::specs::Parts::opened))]
+    #[tactic(auto, using(crate::specs::PartsLaws::opened))]
     pub fn notes(&self) -> &[Note]
         ensures { result.now ≡ self.now.notes }
     {
@@ -87,7 +87,7 @@ impl Tree {
     }
 
     /// Its kids, in order.
-    #[tactic(auto, using(crate::specs::Parts::opened))]
+    #[tactic(auto, using(crate::specs::PartsLaws::opened))]
     pub fn kid_slice(&self) -> &[Tree]
         ensures value { result.now ≡ kids_of self.now }
         ensures proper { IsProper self.now }
@@ -154,7 +154,7 @@ impl Tree {
     }
 
     /// Its word and notes, shared.
-    #[tactic(auto, using(crate::specs::Parts::opened))]
+    #[tactic(auto, using(crate::specs::PartsLaws::opened))]
     pub(crate) fn text(&self) -> Result<Option<Rc<Text>>, AllocError>
         ensures word { IfOk result (λ text. option_map_or (λ t. t.value.word) text [] ≡ self.now.word) }
         ensures notes { IfOk result (λ text. option_map_or (λ t. t.value.notes.items) text [] ≡ self.now.notes) }

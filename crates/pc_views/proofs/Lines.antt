@@ -5,7 +5,7 @@ use Rattle.std.proofs.Math.Seq.{take-append_seam}
 use Rattle.std.specs.Prelude.{codes}
 use Rattle.std.specs.Fmt.{decimal}
 use Rattle.pc_syntax.specs.Plain.{Plain, forest_of, kids_of}
-use Rattle.pc_syntax.specs.Parts.{forest_of-kids_of}
+use Rattle.pc_syntax.specs.PartsLaws.{forest_of-kids_of}
 use Rattle.pc_syntax.specs.Templates.{kind_name}
 use Rattle.pc_views.specs.Limit.{Agrees}
 use Rattle.pc_views.specs.TreeView.{kid_path, line, kid_lines, lines_of}

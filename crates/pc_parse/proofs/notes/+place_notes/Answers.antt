@@ -1,7 +1,7 @@
 use Rattle.std.proofs.Common.{◌≡◌, ◌+◌, ◌≤◌, true, length, drop, sym, ◌∙◌, ap, Vec, Global, arith}
 use Rattle.std.proofs.lemmas.List.{drop_all}
 use Rattle.pc_syntax.specs.declared.tree.Tree.{Tree}
-use Rattle.pc_syntax.specs.Parts.{size_of-kid}
+use Rattle.pc_syntax.specs.PartsLaws.{size_of-kid}
 use Rattle.pc_syntax.specs.WellFormed.{size_of}
 use Rattle.pc_layout.specs.Items.{items_of}
 use Rattle.pc_parse.specs.Comments.{notes_of_lexed}

@@ -1,7 +1,7 @@
 use Rattle.std.proofs.Common.{◌≡◌, ◌+◌, ◌<◌, ◌≤◌, length, get_or, sum_by, sym, ap, arith}
 use Rattle.std.proofs.lemmas.List.{at_drop_all}
 use Rattle.pc_syntax.specs.Plain.{kids_of}
-use Rattle.pc_syntax.specs.Parts.{size_of-kid, small-kids}
+use Rattle.pc_syntax.specs.PartsLaws.{size_of-kid, small-kids}
 use Rattle.pc_syntax.specs.WellFormed.{size_of}
 use Rattle.pc_parse.specs.Placing.{breadth}
 use Rattle.pc_parse.specs.Quiet.{own_symbols}

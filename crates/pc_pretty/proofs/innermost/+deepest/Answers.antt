@@ -1,7 +1,7 @@
 use Rattle.std.proofs.Common.{◌≡◌, ◌∷◌, ◌++◌, ◌+◌, ◌<◌, ◌≤◌, ◌∙◌, [], Some, length, get_or, ap, sym, subst, arith}
 use Rattle.std.specs.Prelude.{unwrap_or}
 use Rattle.pc_syntax.specs.Plain.{kids_of}
-use Rattle.pc_syntax.specs.Parts.{small-size, small-kids, size_of-kids}
+use Rattle.pc_syntax.specs.PartsLaws.{small-size, small-kids, size_of-kids}
 use Rattle.pc_syntax.specs.Places.{at}
 use Rattle.pc_syntax.specs.WellFormed.{depth_of, IsProper, IsWellFormed}
 use Rattle.pc_pretty.specs.Innermost.{HoldsAt, IsInnermostOf, IsBelow}

@@ -1,6 +1,6 @@
 use Rattle.std.proofs.Common.{get_or, sym, arith}
 use Rattle.std.proofs.lemmas.List.{drop_more}
-use Rattle.pc_syntax.specs.Parts.{small-size}
+use Rattle.pc_syntax.specs.PartsLaws.{small-size}
 use Rattle.pc_pretty.proofs.Stepping.{KidRoom, kid_room, stepped_none, stepped}
 use Rattle.pc_pretty.proofs.places.nodes_before.Goals as goal
 

@@ -1,5 +1,5 @@
 use Rattle.std.proofs.Common.{◌<◌, ◌≤◌, ◌+◌, length, sum_by, take, ap, arith}
-use Rattle.pc_syntax.specs.Parts.{small-size, size_of-kids}
+use Rattle.pc_syntax.specs.PartsLaws.{small-size, size_of-kids}
 use Rattle.pc_syntax.specs.WellFormed.{size_of}
 use Rattle.pc_pretty.proofs.Stepping.{sum-more, sum-room}
 use Rattle.pc_pretty.proofs.places.nodes_in.Goals as goal

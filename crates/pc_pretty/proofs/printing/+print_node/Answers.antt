@@ -1,7 +1,7 @@
 use Rattle.std.proofs.Common.{◌≡◌, ℕ, ◌≤◌, ◌<◌, ◌+◌, ◌||◌, ◌∷◌, drop, length, ap, sym, ◌∙◌, Vec, Global, arith}
 use Rattle.std.proofs.lemmas.List.{drop_all}
 use Rattle.pc_syntax.specs.declared.item.Item.TheVariants.{Literal, Word, Kid}
-use Rattle.pc_syntax.specs.Parts.{small-kids}
+use Rattle.pc_syntax.specs.PartsLaws.{small-kids}
 use Rattle.pc_syntax.specs.WellFormed.{depth_of}
 use Rattle.pc_layout.specs.Items.{items_of}
 use Rattle.pc_pretty.specs.Printed.{pieces_of}

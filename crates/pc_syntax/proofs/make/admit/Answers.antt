@@ -1,5 +1,5 @@
 use Rattle.std.proofs.Common.{sym, ◌∙◌}
-use Rattle.pc_syntax.specs.Sound.{fits-sound, fits-unsound}
+use Rattle.pc_syntax.specs.SoundLaws.{fits-sound, fits-unsound}
 use Rattle.pc_syntax.proofs.CountedSoFar.{depth_of-counted, size_of-counted}
 use Rattle.pc_syntax.proofs.make.admit.Goals as goal
 

@@ -1,4 +1,4 @@
-use Rattle.pc_syntax.specs.Parts.{proper-hole}
+use Rattle.pc_syntax.specs.PartsLaws.{proper-hole}
 use Rattle.pc_syntax.proofs.make.hole.Goals as goal
 
 pub of_proper-requires : goal.of_proper-requires

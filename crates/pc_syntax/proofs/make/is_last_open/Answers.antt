@@ -1,7 +1,8 @@
 use Rattle.std.proofs.Common.{ap, sym, ◌∙◌}
 use Rattle.std.specs.Option.{option_map_or}
 use Rattle.std.specs.Prelude.{false}
-use Rattle.pc_syntax.specs.Parts.{is_open, last_open-forest_of}
+use Rattle.pc_syntax.specs.Parts.{is_open}
+use Rattle.pc_syntax.specs.PartsLaws.{last_open-forest_of}
 use Rattle.pc_syntax.proofs.make.is_last_open.Goals as goal
 
 pub returns-in-Some : goal.returns-in-Some

@@ -1,6 +1,6 @@
 use Rattle.std.proofs.Common.{◌≤◌, ◌+◌, ap, sym, ◌∙◌, refl, arith}
 use Rattle.pc_syntax.specs.WellFormed.{size_of}
-use Rattle.pc_syntax.specs.Parts.{size_of-kid}
+use Rattle.pc_syntax.specs.PartsLaws.{size_of-kid}
 use Rattle.pc_syntax.specs.Templates.{kind_name}
 use Rattle.pc_views.specs.TreeView.{kid_path}
 use Rattle.pc_views.proofs.Lines.{lines-start, lines-more, lines-end, path-back}

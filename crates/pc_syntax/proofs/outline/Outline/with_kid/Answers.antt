@@ -1,7 +1,7 @@
 use Rattle.std.proofs.Common.{◌+◌, arith, ap, refl}
 use Rattle.std.proofs.lemmas.Option.{slice_get_within, get_or_from_slice_get}
 use Rattle.pc_syntax.specs.Plain.{kids_of}
-use Rattle.pc_syntax.specs.Parts.{small-size}
+use Rattle.pc_syntax.specs.PartsLaws.{small-size}
 use Rattle.pc_syntax.proofs.Changed.{size_of-kid-le}
 use Rattle.pc_syntax.proofs.Outlines.{outline-with_kid, depth-with_kid}
 use Rattle.pc_syntax.proofs.outline.Outline.with_kid.Goals as goal

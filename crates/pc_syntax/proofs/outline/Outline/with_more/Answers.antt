@@ -1,5 +1,5 @@
 use Rattle.std.proofs.Common.{arith, refl}
-use Rattle.pc_syntax.specs.Parts.{small-size}
+use Rattle.pc_syntax.specs.PartsLaws.{small-size}
 use Rattle.pc_syntax.proofs.More.{outline-with_more}
 use Rattle.pc_syntax.proofs.outline.Outline.with_more.Goals as goal
 

@@ -1,7 +1,7 @@
 use Rattle.std.proofs.Common.{◌≡◌, ◌<◌, ◌≤◌, length, get_or, arith, sym, ◌∙◌, refl}
 use Rattle.std.proofs.lemmas.List.{take_all}
 use Rattle.pc_syntax.specs.Plain.{kids_of}
-use Rattle.pc_syntax.specs.Parts.{same-parts, size_of-kid}
+use Rattle.pc_syntax.specs.PartsLaws.{same-parts, size_of-kid}
 use Rattle.pc_syntax.proofs.tree.Tree.+same.Goals as goal
 
 pub same-requires : goal.same-requires

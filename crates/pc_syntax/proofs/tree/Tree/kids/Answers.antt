@@ -1,5 +1,5 @@
 use Rattle.std.proofs.Common.{arith}
-use Rattle.pc_syntax.specs.Parts.{small-kids}
+use Rattle.pc_syntax.specs.PartsLaws.{small-kids}
 use Rattle.pc_syntax.proofs.tree.Tree.kids.Goals as goal
 
 pub overflow_cast-result : goal.overflow_cast-result

@@ -1,5 +1,5 @@
 use Rattle.std.proofs.Common.{sym, ◌∙◌}
-use Rattle.pc_syntax.specs.Parts.{is_open-node}
+use Rattle.pc_syntax.specs.PartsLaws.{is_open-node}
 use Rattle.pc_syntax.proofs.CountedSoFar.{kept}
 use Rattle.pc_syntax.proofs.tree.Tree.of_text.Goals as goal
 

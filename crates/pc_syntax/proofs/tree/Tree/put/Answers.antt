@@ -1,5 +1,5 @@
 use Rattle.std.proofs.Common.{arith}
-use Rattle.pc_syntax.specs.Parts.{small-size}
+use Rattle.pc_syntax.specs.PartsLaws.{small-size}
 use Rattle.pc_syntax.proofs.tree.Tree.put.Goals as goal
 
 pub of_put-requires-clause-small : goal.of_put-requires-clause-small

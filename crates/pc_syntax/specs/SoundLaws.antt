@@ -4,9 +4,9 @@ use Rattle.std.proofs.lemmas.Bool.{and_parts, and_from}
 use Rattle.pc_syntax.specs.declared.kind.Kind.{Kind}
 use Rattle.pc_syntax.specs.Plain.{Plain, forest_of, node}
 use Rattle.pc_syntax.specs.WellFormed.{takes_notes, WellFormed, IsWellFormed}
-use Rattle.pc_syntax.specs.Parts.{count-forest_of}
+use Rattle.pc_syntax.specs.PartsLaws.{count-forest_of}
 use Rattle.pc_syntax.specs.Fits.{word_fits, takes_count, takes_from, kinds_of, node_fits}
-use Rattle.pc_syntax.specs.FitsLayout.{layout-kids}
+use Rattle.pc_syntax.specs.FitsLayoutLaws.{layout-kids}
 
 not-true : (b : Bool) → not b ≡ true → b ≡ false
 not-true true e = cc

@@ -13,7 +13,7 @@ use Rattle.pc_syntax.specs.declared.class.Class.TheVariants as class
 use Rattle.pc_syntax.specs.declared.item.Item.{Item}
 use Rattle.pc_syntax.specs.declared.item.Item.TheVariants.{Literal, Word, Kid}
 use Rattle.pc_syntax.specs.Plain.{Forest, Nil, Cons, Plain, count, kinds, forest_of}
-use Rattle.pc_syntax.specs.Parts.{count-forest_of}
+use Rattle.pc_syntax.specs.PartsLaws.{count-forest_of}
 use Rattle.pc_syntax.specs.Spellings.{spelling_of}
 use Rattle.pc_syntax.specs.Words.{is_identifier, is_forward, is_numeral, is_text}
 use Rattle.pc_syntax.specs.Layout.{layout, wordless, spelled, operator, around, last_semicolon, further, elements, some_elements}

@@ -12,7 +12,7 @@ use Rattle.pc_lex.specs.declared.symbol.SymbolKind.TheVariants.{Key, Mark, Name,
 use Rattle.pc_lex.specs.Spells.{PlainSymbol, IsComment, Gap, IsSymbol, Leads, Spells}
 use Rattle.pc_lex.specs.Views.{key_lexemes, mark_lexemes, lexeme_of, kept, sym_of, syms}
 use Rattle.pc_lex.specs.Proper.{IsProper, Proper, IsWord, AreComments, AreNoted}
-use Rattle.pc_lex.specs.Spelled.{front_spelled}
+use Rattle.pc_lex.specs.SpelledLaws.{front_spelled}
 
 -- the lexeme keeps no spelling
 is_fixed : Lexeme → Bool
