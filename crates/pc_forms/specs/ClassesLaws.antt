@@ -1,7 +1,7 @@
 -- Which classes are parts of others.
 use Rattle.std.proofs.Common.{◌≡◌, true, refl}
 use Rattle.pc_syntax.specs.declared.kind.Kind.{Kind}
-use Rattle.pc_syntax.specs.declared.kind.Kind.TheVariants.{Ref, Index, Select, Deref, Number, Text, Nil, Call, Parens, Not, Setcon, Mul, Add, Sign, Rel, Hole}
+use Rattle.pc_syntax.specs.declared.kind.Kind.TheVariants.{Ref, Index, Select, Deref, Number, Text, Nil, Call, Parens, Not, Setcon, Mul, Rel, Hole}
 use Rattle.pc_syntax.specs.Classes.{is_access, is_factor, is_term, is_simple, is_expression}
 
 -- an access is an expression

@@ -1,5 +1,5 @@
 -- How many kids a node has that is no list.
-use Rattle.std.proofs.Common.{◌≡◌, ℕ, Bool, true, false, nat_le, ◌==◌, if◌then◌else◌, length, Option, Some, None, refl, sym, ap, ◌∷◌, ◌∙◌}
+use Rattle.std.proofs.Common.{◌≡◌, ℕ, Bool, true, false, nat_le, ◌==◌, if◌then◌else◌, length, Some, None, refl, sym, ap, ◌∷◌, ◌∙◌}
 use Rattle.std.proofs.lemmas.Bool.{and_parts, eqb-true}
 use Rattle.pc_syntax.specs.Plain.{Forest, Nil, Cons, Plain, count, kinds, trees_of, kids_of}
 use Rattle.pc_syntax.specs.Slots.{is_list, least_of, places_of}

@@ -1,5 +1,5 @@
 -- What holds of each tree of a list.
-use Rattle.std.proofs.Common.{◌≡◌, ℕ, zero, suc, ◌+◌, ◌<◌, List, [], ◌∷◌, length, get_or, refl, arith}
+use Rattle.std.proofs.Common.{◌≡◌, ℕ, zero, suc, ◌<◌, List, [], ◌∷◌, length, get_or, refl, arith}
 use Rattle.pc_syntax.specs.Plain.{Plain}
 use Rattle.pc_forms.specs.FormClasses.{Every}
 

@@ -1,5 +1,5 @@
 -- What holds of the form of a proper tree, and what holds of a proper tree since it holds of its form.
-use Rattle.std.proofs.Common.{◌≡◌, ◌+◌, ◌≤◌, true, sum_by, refl, sym, ap, ◌∙◌, arith}
+use Rattle.std.proofs.Common.{◌≡◌, ◌+◌, ◌≤◌, true, sum_by, refl, sym, ◌∙◌, arith}
 use Rattle.std.proofs.lemmas.Bool.{and_parts}
 use Rattle.pc_syntax.specs.Plain.{Forest, Nil, Cons, Plain, trees_of, kids_of}
 use Rattle.pc_syntax.specs.Fits.{word_fits}
