@@ -1,0 +1,79 @@
+-- The kids that a form has.
+use Rattle.std.specs.Prelude.{List, [], ◌∷◌}
+use Rattle.pc_forms.specs.declared.form.Form.{Form}
+use Rattle.pc_forms.specs.declared.form.Form.TheVariants as form
+
+-- the kids that a form has, in the order of the tree
+abbrev pub kids_in : {A W : Type 0} → Form A (List A) W → List A
+kids_in (form.Program name heads block) = name ∷ heads ∷ block ∷ []
+kids_in (form.Block consts types vars routines body) = consts ∷ types ∷ vars ∷ routines ∷ body ∷ []
+kids_in (form.Forward word) = []
+kids_in (form.Constdef name value) = name ∷ value ∷ []
+kids_in (form.Typedef name denoter) = name ∷ denoter ∷ []
+kids_in (form.Vardef names denoter) = names ∷ denoter ∷ []
+kids_in (form.Field names denoter) = names ∷ denoter ∷ []
+kids_in (form.Valparam names type_name) = names ∷ type_name ∷ []
+kids_in (form.Varparam names type_name) = names ∷ type_name ∷ []
+kids_in (form.Procedure name params block) = name ∷ params ∷ block ∷ []
+kids_in (form.Function name params result_type block) = name ∷ params ∷ result_type ∷ block ∷ []
+kids_in (form.Funbody name block) = name ∷ block ∷ []
+kids_in (form.Tname name) = name ∷ []
+kids_in (form.Enum names) = names ∷ []
+kids_in (form.Subrange low high) = low ∷ high ∷ []
+kids_in (form.Array indexes element) = indexes ∷ element ∷ []
+kids_in (form.Record fields) = fields ∷ []
+kids_in form.Record0 = []
+kids_in (form.Setof base) = base ∷ []
+kids_in (form.Packed unpacked) = unpacked ∷ []
+kids_in (form.Pointer name) = name ∷ []
+kids_in (form.Cnumber word) = []
+kids_in (form.Cstring word) = []
+kids_in (form.Cname name) = name ∷ []
+kids_in (form.Csign sign constant) = constant ∷ []
+kids_in form.Empty = []
+kids_in (form.Assign target value) = target ∷ value ∷ []
+kids_in (form.Proc name args) = name ∷ args ∷ []
+kids_in (form.Compound stmts) = stmts ∷ []
+kids_in (form.If condition body) = condition ∷ body ∷ []
+kids_in (form.Ifelse condition body otherwise) = condition ∷ body ∷ otherwise ∷ []
+kids_in (form.Case selector arms) = selector ∷ arms ∷ []
+kids_in (form.Arm labels body) = labels ∷ body ∷ []
+kids_in (form.Repeat stmts condition) = stmts ∷ condition ∷ []
+kids_in (form.While condition body) = condition ∷ body ∷ []
+kids_in (form.For control first downwards last body) = control ∷ first ∷ last ∷ body ∷ []
+kids_in (form.With records body) = records ∷ body ∷ []
+kids_in (form.Ref name) = name ∷ []
+kids_in (form.Index array indexes) = array ∷ indexes ∷ []
+kids_in (form.Select whole field) = whole ∷ field ∷ []
+kids_in (form.Deref pointer) = pointer ∷ []
+kids_in (form.Number word) = []
+kids_in (form.Text word) = []
+kids_in form.Nil = []
+kids_in (form.Call name args) = name ∷ args ∷ []
+kids_in (form.Parens inner) = inner ∷ []
+kids_in (form.Not operand) = operand ∷ []
+kids_in (form.Setcon members) = members ∷ []
+kids_in (form.Mul left operator right) = left ∷ right ∷ []
+kids_in (form.Add left operator right) = left ∷ right ∷ []
+kids_in (form.Sign sign operand) = operand ∷ []
+kids_in (form.Rel left operator right) = left ∷ right ∷ []
+kids_in (form.Width value width) = value ∷ width ∷ []
+kids_in (form.Span low high) = low ∷ high ∷ []
+kids_in (form.Name word) = []
+kids_in (form.Heads ks) = ks
+kids_in (form.Args ks) = ks
+kids_in (form.Params ks) = ks
+kids_in (form.Names ks) = ks
+kids_in (form.Labels ks) = ks
+kids_in (form.Indexes ks) = ks
+kids_in (form.Exprs ks) = ks
+kids_in (form.Accesses ks) = ks
+kids_in (form.Members ks) = ks
+kids_in (form.Consts ks) = ks
+kids_in (form.Types ks) = ks
+kids_in (form.Vars ks) = ks
+kids_in (form.Routines ks) = ks
+kids_in (form.Fields ks) = ks
+kids_in (form.Stmts ks) = ks
+kids_in (form.Arms ks) = ks
+kids_in (form.Hole s) = []

@@ -1,0 +1,16 @@
+pub mod ClassesLaws
+pub mod CountLaws
+pub mod EveryLaws
+pub mod ExpressionForms
+pub mod Fold
+pub mod FoldLaws
+pub mod Form
+pub mod FormClasses
+pub mod FormClassesLaws
+pub mod FormKids
+pub mod FormKidsLaws
+pub mod FormKind
+pub mod FormLaws
+pub mod FormMap
+pub mod Operators
+pub mod StatementForms
