@@ -1,27 +1,12 @@
 //! The program: it reads a script of commands, and writes the reply to each.
 //!
-//! Start at `pecan` in `run.rt`. What it writes is a transcript of the script
-//! (`specs/Transcript.antt`): for each command one piece, which `specs/Obeying.antt` allows as its
-//! answer. `obey` in `obey.rt` does one command.
+//! What it writes is said by `pecan` of `pc_transcript`, which does the whole run.
 #![tactic(auto)]
 
 ghost use Rattle.std.specs.Prelude.{◌≡◌, ◌<◌};
 
-#[cfg(test)]
-mod edit_tests;
-#[cfg(test)]
-mod load_tests;
-mod obey;
-mod run;
-mod status;
-#[cfg(test)]
-mod tests;
-#[cfg(test)]
-mod text_tests;
-
-use crate::run::pecan;
-use crate::status::Status;
 use pc_syntax::Steps;
+use pc_transcript::{Status, pecan};
 use pc_world::{MemShelf, Shelf, Sink, Source, StdSink, StdSource};
 use std::alloc::Global;
 use std::env;
