@@ -9,6 +9,7 @@ pub mod Expressions
 pub mod Follows
 pub mod Fronts
 pub mod Items
+pub mod GoingOn
 pub mod Leading
 pub mod LeafLaws
 pub mod Least
