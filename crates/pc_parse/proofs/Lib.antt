@@ -2,6 +2,7 @@ pub mod BarePartial
 pub mod Breadths
 pub mod Complete
 pub mod Completion
+pub mod Cutting
 pub mod Declarations
 pub mod Energy
 pub mod Entries
