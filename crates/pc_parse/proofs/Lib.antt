@@ -24,6 +24,7 @@ pub mod Payload
 pub mod Reached
 pub mod Routines
 pub mod Simulates
+pub mod SortClasses
 pub mod Sound
 pub mod SoundCloses
 pub mod SoundFrames
