@@ -1,5 +1,5 @@
--- A text has one list of symbols or one first fault, and never both; and the tables agree.
-use Rattle.std.specs.Prelude.{◌≡◌, ◌≢◌, ℕ, Bool, true, false, List, [], ◌∷◌, length, slice_range, ◌+◌, map, codes}
+-- A text has one list of symbols or one first fault, and never both; what stands first is the longest symbol; and the tables agree.
+use Rattle.std.specs.Prelude.{◌≡◌, ◌≢◌, ◌⊎◌, ◌<◌, ◌≤◌, ℕ, Bool, true, false, List, [], ◌∷◌, length, take, slice_range, ◌+◌, map, codes}
 use Rattle.std.proofs.Common.{refl, sym, ap, ◌∙◌, inl, inr, arith}
 use Rattle.std.proofs.Math.Seq.{drop-length}
 use Rattle.std.proofs.lemmas.Bool.{cases_order, false≢true, true≢false}
@@ -32,6 +32,21 @@ fronts_from n (w ∷ ws) = Symbol (Mark n) (length w) ∷ fronts_from (n + 1) ws
 abbrev pub MarksRead : Type 0
 MarksRead = map front mark_words ≡ fronts_from 1 mark_words
 
+-- a text that spells symbols
+pub record HasSymbols (text : List ℕ) : Type 0 where
+  pub symbols : List PlainSymbol
+  pub tail : List Span
+  pub spells : Spells text symbols tail
+
+-- a text with a first fault
+pub record HasFault (text : List ℕ) : Type 0 where
+  pub fault : LexError
+  pub first : FirstFault text fault
+
+-- each text spells symbols or has a first fault
+abbrev pub EachIsRead : Type 0
+EachIsRead = (text : List ℕ) → HasSymbols text ⊎ HasFault text
+
 -- a text has at most one list of symbols, and the comments after them
 abbrev pub OneSpelling : Type 0
 OneSpelling = (text : List ℕ) (ss ts : List PlainSymbol) (ms ns : List Span) → Spells text ss ms → Spells text ts ns → (ss ≡ ts) × (ms ≡ ns)
@@ -43,6 +58,18 @@ OneFault = (text : List ℕ) (e f : LexError) → FirstFault text e → FirstFau
 -- a text with a fault has no list of symbols
 abbrev pub NotBoth : Type 0
 NotBoth = (text : List ℕ) (ss : List PlainSymbol) (ns : List Span) (e : LexError) → Spells text ss ns → ¬ FirstFault text e
+
+-- the bytes are one symbol of the kind: it stands at their beginning, and nothing behind it
+abbrev pub IsOneSymbol : SymbolKind → List ℕ → Type 0
+IsOneSymbol kind word = front word ≡ Symbol kind (length word)
+
+-- the symbol with which a text begins is the longest beginning of the text that is one symbol
+pub record IsLongest (text : List ℕ) (kind : SymbolKind) (len : ℕ) : Type 0 where
+  pub one : IsOneSymbol kind (take len text)
+  pub longest : (other : SymbolKind) (more : ℕ) → len < more → more ≤ length text → ¬ IsOneSymbol other (take more text)
+
+abbrev pub LongestFirst : Type 0
+LongestFirst = (text : List ℕ) (kind : SymbolKind) (len : ℕ) → front text ≡ Symbol kind len → IsLongest text kind len
 
 -- white space and comments stand between symbols
 abbrev is_between : Front → Bool

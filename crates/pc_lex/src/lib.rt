@@ -22,6 +22,6 @@ mod tests;
 
 pub use error::LexError;
 pub use front::Front;
-pub use laws::{one_reading, same_tables};
+pub use laws::{longest_first, one_reading, same_tables};
 pub use lexing::lex;
 pub use symbol::{Lexed, Span, Symbol, SymbolKind};

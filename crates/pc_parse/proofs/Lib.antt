@@ -2,6 +2,7 @@ pub mod BarePartial
 pub mod Breadths
 pub mod Complete
 pub mod Completion
+pub mod Cutting
 pub mod Declarations
 pub mod Energy
 pub mod Entries
@@ -9,6 +10,7 @@ pub mod Expressions
 pub mod Follows
 pub mod Fronts
 pub mod Items
+pub mod GoingOn
 pub mod Leading
 pub mod LeafLaws
 pub mod Least
@@ -22,6 +24,7 @@ pub mod Payload
 pub mod Reached
 pub mod Routines
 pub mod Simulates
+pub mod SortClasses
 pub mod Sound
 pub mod SoundCloses
 pub mod SoundFrames

@@ -23,5 +23,5 @@ mod tests;
 mod turns;
 
 pub use error::ParseError;
-pub use laws::one_tree;
+pub use laws::{one_number, one_tree, sorts_are_classes};
 pub use reading::{Reading, depth_of, read};
