@@ -1,5 +1,5 @@
 -- What may be answered to a program's text with a range of it replaced.
-use Rattle.std.specs.Prelude.{◌≡◌, ◌≢◌, ◌+◌, ◌≤◌, ℕ, List, length, Option, Some, None, Result, Ok, Err}
+use Rattle.std.specs.Prelude.{◌≡◌, ◌≢◌, ◌+◌, ◌≤◌, ℕ, List, length, Some, None, Result, Ok, Err}
 use Rattle.pc_syntax.specs.declared.class.Class.TheVariants as class
 use Rattle.pc_syntax.specs.Plain.{Plain}
 use Rattle.pc_lex.specs.declared.error.LexError.{LexError}
@@ -62,12 +62,3 @@ misread parse.NoMemory = NoMemory
 pub record StepsOnSymbols (text : List ℕ) (before after : ℕ) : Type 0 where
   pub spelled : (symbols : List PlainSymbol) (tail : List Span) → Spells text symbols tail → after ≤ before + length symbols
   pub unspelled : ((symbols : List PlainSymbol) (tail : List Span) → ¬ Spells text symbols tail) → after ≡ before
-
--- so much work for the text with the span replaced; none where there is no span
-abbrev pub StepsOnSpan : Option Span → List ℕ → List ℕ → ℕ → ℕ → Type 0
-StepsOnSpan None text new before after = after ≡ before
-StepsOnSpan (Some span) text new before after = StepsOnSymbols (replaced text span new) before after
-
--- so much work for the text of a program with a range replaced
-abbrev pub StepsOnRange : Plain → Range → List ℕ → ℕ → ℕ → Type 0
-StepsOnRange t range new before after = StepsOnSpan (range_span (printed t) range) (printed t) new before after

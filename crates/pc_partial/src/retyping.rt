@@ -2,7 +2,7 @@
 
 ghost use Rattle.std.specs.Prelude.{◌≡◌, ◌≤◌, IfOk, length};
 ghost use Rattle.pc_pretty.specs.Ranges.{replaced};
-ghost use Rattle.pc_partial.specs.Retyping.{Retypes, StepsOnRange, misread, unspelled};
+ghost use Rattle.pc_partial.specs.Retyping.{Retypes, misread, unspelled};
 
 use crate::error::RetypeError;
 use pc_lex::{LexError, Span, lex};
@@ -23,8 +23,7 @@ pub fn retype<L: Ledger>(
     work: &mut Steps<L>,
 ) -> Result<Reading, RetypeError>
     requires { text.now ≡ tree.now }
-    ensures read { Retypes tree.now range.now new.now result }
-    ensures work { StepsOnRange tree.now range.now new.now work.old work.new }
+    ensures { Retypes tree.now range.now new.now result }
 {
     let _ = tree;
     let Some(span) = text.range(range) else {

@@ -8,10 +8,11 @@ pub mod Deepest
 pub mod Forward
 pub mod FrontOf
 pub mod Headed
-pub mod JoinedSpans
+pub mod Joins
 pub mod Laid
 pub mod LinesAndColumns
 pub mod Listing
+pub mod Marking
 pub mod Nesting
 pub mod PathSpans
 pub mod PieceSymbols

@@ -168,22 +168,3 @@ pieces_spelled text (p ∷ ps) (ns ∷ nss) o at h e =
     append_assoc (p.gap ++ written p.sym) (text_of ps) (10 ∷ []) ∙ append_assoc p.gap (written p.sym) (text_of ps ++ 10 ∷ []) in
     symbol_spelled text at p.gap ns p.sym (text_of ps ++ 10 ∷ []) (syms_of ps) nss (e ∙ split) h.0 h.2 (rest_stops p.sym.lexeme ps nss h.3)
     (λ from f. pieces_spelled text ps nss (Some p.sym.lexeme) from h.3 f)
-
--- where each symbol of the pieces stands, where so many bytes stand before them
-abbrev pub piece_spans : ℕ → List Piece → List Span
-piece_spans at [] = []
-piece_spans at (p ∷ ps) =
-    record { from = at + length p.gap; to = at + length p.gap + length (written p.sym) } ∷ piece_spans (at + length p.gap + length (written p.sym)) ps
-
-abbrev pub span_of_plain : PlainSymbol → Span
-span_of_plain s = s.span
-
--- the symbols that clean pieces spell stand where the pieces have them
-pub pieces_placed : (text : List ℕ) (ps : List Piece) (nss : List Notes) (o : Option Lexeme) (at : ℕ) (h : Clean o ps nss) (e : drop at text ≡ text_of ps ++ 10 ∷ []) →
-    map span_of_plain (pieces_spelled text ps nss o at h e).symbols ≡ piece_spans at ps
-unfolding pieces_spelled symbol_spelled end_spelled
-pieces_placed text [] [] o at h e = refl
-pieces_placed text [] (ns ∷ nss) o at h e = absurd h
-pieces_placed text (p ∷ ps) [] o at h e = absurd h
-pieces_placed text (p ∷ ps) (ns ∷ nss) o at h e =
-    ap (λ ss. record { from = at + length p.gap; to = at + length p.gap + length (written p.sym) } ∷ ss) (pieces_placed text ps nss (Some p.sym.lexeme) (at + length p.gap + length (written p.sym)) h.3 _)

@@ -1,5 +1,5 @@
 -- How a text keeps the spans of its nodes: in preorder, each node before its kids, and a kid before the next one.
-use Rattle.std.specs.Prelude.{ℕ, suc, ◌+◌, ◌-◌, List, [], ◌∷◌, ◌++◌, Option, Some, None, length, take, sum_by}
+use Rattle.std.specs.Prelude.{◌≡◌, ℕ, suc, ◌+◌, ◌-◌, List, [], ◌∷◌, ◌++◌, Option, Some, None, length, take, sum_by}
 use Rattle.std.specs.Option.{option_map_or}
 use Rattle.pc_syntax.specs.declared.kind.Kind.{Kind}
 use Rattle.pc_syntax.specs.declared.item.Item.{Item}
@@ -13,6 +13,7 @@ use Rattle.pc_lex.specs.declared.symbol.Span.{Span}
 use Rattle.pc_pretty.specs.declared.spacing.Spacing.TheVariants.{Tight}
 use Rattle.pc_pretty.specs.Printed.{place, pieces_of}
 use Rattle.pc_pretty.specs.Spans.{symbols_span}
+use Rattle.pc_pretty.specs.Joined.{joined, StandFrom}
 
 -- the spans of a node and all below it, where so many symbols stand before it
 abbrev pub Lister : Type 0
@@ -48,6 +49,10 @@ spans_of span t n = node_spans span t.kind t.word t.kids (listers span t.kids) n
 -- the spans of all nodes of a tree in its printed text
 unfoldable pub text_spans : Plain → List (Option Span)
 text_spans t = spans_of (symbols_span (pieces_of t (place Tight 0))) t 0
+
+-- the spans of a node and all below it were added; its symbols have these, wherever they stand in a list of all
+abbrev pub AddsSpans : Plain → List Span → List (Option Span) → List (Option Span) → Type 0
+AddsSpans t own old new = (ss : List Span) (n : ℕ) → StandFrom ss n own → new ≡ old ++ spans_of (joined ss) t n
 
 -- how many nodes stand before the node at a path in preorder
 abbrev pub nodes_before : List ℕ → Plain → ℕ

@@ -1,22 +1,26 @@
 //! The printed text of a tree.
 
-ghost use Rattle.std.specs.Prelude.{◌≡◌, ◌+◌, ◌*◌, ◌≤◌, ◌++◌, IfOk};
+ghost use Rattle.std.specs.Prelude.{◌≡◌, ◌+◌, ◌*◌, ◌≤◌, ◌++◌, IfOk, IsTrue, length};
 ghost use Rattle.pc_syntax.specs.Spellings.{spelling_of};
 ghost use Rattle.pc_syntax.specs.WellFormed.{depth_of};
-ghost use Rattle.pc_pretty.specs.Spacing.{gap, spaces};
+ghost use Rattle.pc_pretty.specs.Spacing as table;
+ghost use Rattle.pc_pretty.specs.Spacing.{spaces};
 ghost use Rattle.pc_pretty.specs.Printed as spec;
+ghost use Rattle.pc_pretty.specs.Joined.{join, piece_spans, symbol_span};
+ghost use Rattle.pc_pretty.specs.Preorder.{AddsSpans, text_spans};
 ghost use Rattle.pc_layout.specs.Noted.{HasNotes};
 ghost use Rattle.pc_pretty.specs.Notes.{tree_notes};
 ghost use Rattle.pc_pretty.specs.Laws.{Spelled, ReadsBack};
 
 use crate::spacing::{Place, Spacing, space};
+use crate::spans::{keep_place, put_span, through};
 use pc_layout::node_items;
+use pc_lex::Span;
 use pc_syntax::{Item, Kind, Lexeme, Note, Tree};
 use std::alloc::{AllocError, Global};
 
 /// The text of a tree: its symbols with white space between them, and a line feed at the end. The notes of a node
 /// stand before its first symbol, each on a line of its own. Fails for want of memory only.
-#[tactic(auto, unfolding(crate::specs::Printed::printed))]
 pub fn print(alloc: Global, tree: &Tree) -> Result<Vec<u8>, AllocError>
     ensures value { IfOk result (λ text. text.items ≡ spec.printed tree.now) }
     ensures spelled { IfOk result (λ text. Spelled text.items tree.now) }
@@ -24,63 +28,72 @@ pub fn print(alloc: Global, tree: &Tree) -> Result<Vec<u8>, AllocError>
     ensures read_back { IfOk result (λ text. ReadsBack text.items tree.now) }
 {
     let _ = tree.depth();
+    let mut spans = Vec::new(alloc);
+    print_whole(alloc, tree, false, &mut spans)
+}
+
+/// The text of a tree, and, if they are asked for, the spans of its nodes in preorder behind those that are there.
+#[tactic(auto, unfolding(crate::specs::Printed::printed))]
+pub fn print_whole(
+    alloc: Global,
+    tree: &Tree,
+    asked: bool,
+    spans: &mut Vec<Option<Span>>,
+) -> Result<Vec<u8>, AllocError>
+    ensures value { IfOk result (λ text. text.items ≡ spec.printed tree.now) }
+    ensures spans { IfOk result (λ _. IsTrue asked → spans.new.items ≡ spans.old.items ++ text_spans tree.now) }
+{
+    let _ = tree.depth();
     let mut text = Vec::new(alloc);
     let place = Place {
         spacing: Spacing::Tight,
         indentation: 0,
     };
-    let _ = print_node(alloc, tree, place, &mut text)?;
+    let _ = print_node(alloc, tree, place, asked, &mut text, spans)?;
     text.push(b'\n')?;
     Ok(text)
 }
 
-/// Adds the text of a node at a place, and says whether it has a symbol.
+/// Adds the text of a node at a place, and the spans of the node and all below it, if they are asked for. Gives its
+/// span; none where it has no symbol.
 fn print_node(
     alloc: Global,
     tree: &Tree,
     place: Place,
+    asked: bool,
     out: &mut Vec<u8>,
-) -> Result<bool, AllocError>
+    spans: &mut Vec<Option<Span>>,
+) -> Result<Option<Span>, AllocError>
     requires { place.indentation + 2 * depth_of tree.now ≤ 512 }
     ensures text { IfOk result (λ _. out.new.items ≡ out.old.items ++ spec.text_of (spec.pieces_of tree.now place)) }
-    ensures printed { IfOk result (λ printed. printed ≡ spec.has_pieces (spec.pieces_of tree.now place)) }
+    ensures span { IfOk result (λ span. span ≡ join (piece_spans (length out.old.items) (spec.pieces_of tree.now place))) }
+    ensures spans { IfOk result (λ _. IsTrue asked → AddsSpans tree.now (piece_spans (length out.old.items) (spec.pieces_of tree.now place)) spans.old.items spans.new.items) }
 {
     let kind = tree.kind();
     let word = tree.word();
     let kids = tree.kid_slice();
     let items = node_items(alloc, kind, word, kids.len())?;
     let indentation = place.inner();
+    let at = keep_place(asked, spans)?;
     let mut number = 0;
     let mut kept = Some(push_notes(out, place, tree.notes())?);
-    let mut some = false;
+    let mut span = None;
     for (n, item) in items.as_slice().iter().enumerate() {
-        let spacing = space(kind, n, *item);
-        let own = or_own(
-            kept,
-            Place {
-                spacing,
-                indentation,
-            },
-        );
+        let own = own_place(kept, kind, n, *item, indentation);
         let printed = match item {
-            Item::Literal(lexeme) => {
-                push_symbol(out, own, *lexeme, &[])?;
-                true
-            }
-            Item::Word(lexeme) => {
-                push_symbol(out, own, *lexeme, word)?;
-                true
-            }
+            Item::Literal(lexeme) => Some(push_symbol(out, own, *lexeme, &[])?),
+            Item::Word(lexeme) => Some(push_symbol(out, own, *lexeme, word)?),
             Item::Kid(_) => {
                 let kid = &kids[number];
                 number += 1;
-                print_node(alloc, kid, own, out)?
+                print_node(alloc, kid, own, asked, out, spans)?
             }
         };
-        kept = kept_next(kind, kept, own, printed);
-        some = some || printed;
+        kept = kept_next(kind, kept, own, printed.is_some());
+        span = through(span, printed);
     }
-    Ok(some)
+    put_span(asked, spans, at, span);
+    Ok(span)
 }
 
 /// Adds the notes of a node at a place, and says where its first symbol stands behind them.
@@ -101,13 +114,16 @@ fn push_notes(out: &mut Vec<u8>, place: Place, notes: &[Note]) -> Result<Place, 
     Ok(at)
 }
 
-/// The place that is kept, or else its own.
-fn or_own(kept: Option<Place>, own: Place) -> Place
-    ensures { result ≡ spec.or_own kept own }
+/// The place of the item with a number of a node: the one that is kept, or else its own.
+fn own_place(kept: Option<Place>, kind: Kind, n: usize, item: Item, indentation: u32) -> Place
+    ensures { result ≡ spec.or_own kept (spec.place (table.space kind n item) indentation) }
 {
     match kept {
         Some(place) => place,
-        None => own,
+        None => Place {
+            spacing: space(kind, n, item),
+            indentation,
+        },
     }
 }
 
@@ -125,20 +141,25 @@ fn kept_next(kind: Kind, kept: Option<Place>, own: Place, printed: bool) -> Opti
     }
 }
 
-/// Adds a symbol at a place: the white space before it and how it is written.
+/// Adds a symbol at a place: the white space before it and how it is written. Gives its span.
 fn push_symbol(
     out: &mut Vec<u8>,
     place: Place,
     lexeme: Lexeme,
     word: &[u8],
-) -> Result<(), AllocError>
+) -> Result<Span, AllocError>
     requires { place.indentation ≤ 1000 }
-    ensures { IfOk result (λ _. out.new.items ≡ out.old.items ++ (spec.gap_at place ++ (spelling_of lexeme ++ word.now))) }
+    ensures text { IfOk result (λ _. out.new.items ≡ out.old.items ++ (spec.gap_at place ++ (spelling_of lexeme ++ word.now))) }
+    ensures span { IfOk result (λ span. span ≡ symbol_span (length out.old.items) (spec.gap_at place) (spelling_of lexeme ++ word.now)) }
 {
     push_gap(out, place)?;
+    let from = out.len();
     out.extend_from_slice(lexeme.spelling())?;
     out.extend_from_slice(word)?;
-    Ok(())
+    Ok(Span {
+        from,
+        to: out.len(),
+    })
 }
 
 /// Adds the white space of a place.

@@ -1,79 +1,43 @@
-//! The spans of the nodes of a tree, from those of its symbols.
+//! The spans of the nodes of a tree, in preorder, as they are noted while it is printed.
 
-ghost use Rattle.std.specs.Prelude.{◌≡◌, ◌≤◌, ◌+◌, ◌-◌, ◌++◌, IfOk, length, map};
-ghost use Rattle.pc_pretty.specs.Spans.{symbol_count};
-ghost use Rattle.pc_pretty.specs.Preorder.{spans_of, text_spans};
-ghost use Rattle.pc_pretty.specs.Printed.{printed};
-ghost use Rattle.pc_pretty.specs.Joined.{joined, span_of_symbol};
+ghost use Rattle.std.specs.Prelude.{◌≡◌, ◌<◌, ◌++◌, ◌∷◌, [], None, IfOk, IsTrue, length, set};
+ghost use Rattle.pc_pretty.specs.Joined.{through};
 
-use pc_layout::node_items;
-use pc_lex::{LexError, Span, Symbol, lex};
-use pc_syntax::{Item, Tree};
-use std::alloc::{AllocError, Global};
+use pc_lex::Span;
+use std::alloc::AllocError;
 
-/// The spans of all nodes of a tree in its printed text, in preorder: each is joined from those of the node's symbols,
-/// which stand in the text where they are found when it is cut into symbols.
-pub fn node_spans(alloc: Global, tree: &Tree, text: &[u8]) -> Result<Vec<Option<Span>>, AllocError>
-    requires { text.now ≡ printed tree.now }
-    ensures { IfOk result (λ spans. spans.items ≡ text_spans tree.now) }
+/// Keeps a place for the span of the next node, if spans are asked for, and says which.
+pub fn keep_place(asked: bool, spans: &mut Vec<Option<Span>>) -> Result<usize, AllocError>
+    ensures place { IfOk result (λ place. place ≡ length spans.old.items) }
+    ensures kept { IfOk result (λ _. IsTrue asked → spans.new.items ≡ spans.old.items ++ None ∷ []) }
 {
-    let size = tree.size();
-    let lexed = match lex(alloc, text) {
-        Ok(lexed) => lexed,
-        Err(fault) => match fault {
-            LexError::NoMemory => return Err(AllocError),
-            _ => unreachable!(),
-        },
-    };
-    let mut spans = Vec::with_capacity(alloc, size as usize)?;
-    let _ = push_spans(alloc, tree, &lexed.symbols, 0, &mut spans)?;
-    Ok(spans)
-}
-
-/// Adds the spans of a node and of all below it in preorder, and says how many symbols stand before its end. So many
-/// stand before the node itself.
-fn push_spans(
-    alloc: Global,
-    tree: &Tree,
-    symbols: &[Symbol],
-    before: usize,
-    spans: &mut Vec<Option<Span>>,
-) -> Result<usize, AllocError>
-    requires { before + symbol_count tree.now ≤ length symbols.now }
-    ensures spans { IfOk result (λ _. spans.new.items ≡ spans.old.items ++ spans_of (joined (map span_of_symbol symbols.now)) tree.now before) }
-    ensures end { IfOk result (λ end. end ≡ before + symbol_count tree.now) }
-{
-    let kids = tree.kid_slice();
-    let items = node_items(alloc, tree.kind(), tree.word(), kids.len())?;
     let place = spans.len();
-    spans.push(None)?;
-    let mut number = 0;
-    let mut end = before;
-    for item in items.as_slice() {
-        match item {
-            Item::Literal(_) | Item::Word(_) => end += 1,
-            Item::Kid(_) => {
-                end = push_spans(alloc, &kids[number], symbols, end, spans)?;
-                number += 1;
-            }
-        }
+    if asked {
+        spans.push(None)?;
     }
-    spans[place] = join(symbols, before, end);
-    Ok(end)
+    Ok(place)
 }
 
-/// The span from the symbol number `from`, counted from 0, to the end of the last one before number `to`; none where
-/// there is no symbol.
-fn join(symbols: &[Symbol], from: usize, to: usize) -> Option<Span>
-    requires ordered { from ≤ to }
-    requires within { to ≤ length symbols.now }
-    ensures { result ≡ joined (map span_of_symbol symbols.now) from (to - from) }
+/// Puts a node's span into its place, if spans are asked for.
+pub fn put_span(asked: bool, spans: &mut Vec<Option<Span>>, place: usize, span: Option<Span>)
+    requires { IsTrue asked → place < length spans.old.items }
+    ensures { IsTrue asked → spans.new.items ≡ set spans.old.items place span }
 {
-    if from == to {
-        return None;
+    if asked {
+        spans[place] = span;
     }
-    Some(Span {
-        from: symbols[from].span.from,
-        to: symbols[to - 1].span.to,
-    })
+}
+
+/// From one span to the end of another, where each may be missing.
+pub fn through(span: Option<Span>, next: Option<Span>) -> Option<Span>
+    ensures { result ≡ through span next }
+{
+    match (span, next) {
+        (Some(span), Some(next)) => Some(Span {
+            from: span.from,
+            to: next.to,
+        }),
+        (Some(span), None) => Some(span),
+        (None, next) => next,
+    }
 }

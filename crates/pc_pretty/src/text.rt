@@ -10,9 +10,8 @@ ghost use Rattle.pc_syntax.specs.Places.{at};
 ghost use Rattle.pc_syntax.specs.WellFormed.{size_of};
 
 use crate::places::nodes_before;
-use crate::printing::print;
+use crate::printing::print_whole;
 use crate::range::{Range, span_of};
-use crate::spans::node_spans;
 use pc_lex::Span;
 use pc_syntax::{Path, Tree};
 use std::alloc::{AllocError, Global};
@@ -44,8 +43,8 @@ impl Model for Text {
 pub fn pretty(alloc: Global, tree: &Tree) -> Result<Text, AllocError>
     ensures { IfOk result (λ text. text ≡ tree.now) }
 {
-    let bytes = print(alloc, tree)?;
-    let spans = node_spans(alloc, tree, &bytes)?;
+    let mut spans = Vec::with_capacity(alloc, tree.size() as usize)?;
+    let bytes = print_whole(alloc, tree, true, &mut spans)?;
     let tree = tree.copy()?;
     Ok(Text { bytes, spans, tree })
 }
