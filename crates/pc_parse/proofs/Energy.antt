@@ -20,11 +20,11 @@ abbrev pub is_some : Option Lexeme → Bool
 is_some None = false
 is_some (Some x) = true
 
--- what a plan leads to is worth less than e, or than e and the symbol that it takes
+-- what a plan leads to is worth less than e, or than e and the symbol that it takes; where it ends, no symbol is left
 abbrev Falls : {A : Type 0} → Plan A → Option Lexeme → ℕ → Type 0
 Falls (Stay st) x e = state_energy st < e
 Falls (Take st) x e = (is_some x ≡ true) × (state_energy st < e + 20)
-Falls (End a) x e = Unit {0}
+Falls (End a) x e = x ≡ None
 Falls Stuck x e = Unit {0}
 
 -- how a kid begins is paid for by e, or by e and the symbol that is taken
@@ -133,7 +133,7 @@ module _ {A : Type 0} (make : Kind → List ℕ → List A → A) where
   falls_below : (p : Plan A) (x : Option Lexeme) (a b : ℕ) → a ≤ b → Falls p x a → Falls p x b
   falls_below (Stay st) x a b le h = omega (arith, le, h)
   falls_below (Take st) x a b le h = (h.0, omega (arith, le, h.1))
-  falls_below (End t) x a b le h = tt
+  falls_below (End t) x a b le h = h
   falls_below Stuck x a b le h = tt
 
   switch_falls : (o : Option (Kind × List Item)) (other : Plan A) (f : Frame A) (fs : List (Frame A)) (x : Option Lexeme) (n : ℕ)
@@ -196,7 +196,7 @@ module _ {A : Type 0} (make : Kind → List ℕ → List A → A) where
   give_falls : (root : Class) (b : Bool) (c : Class) (k : Kind) (a : A) (m : List Item) (fs : List (Frame A)) (x : Option Lexeme)
       → (b ≡ true → kept_back c < node_energy k) → awaited_by root fs ≡ Some (c, m) → Falls (on_give make b a m fs x) x (node_energy k + below_energy fs)
   give_falls root false c k a m fs x pays e = tt
-  give_falls root true c k a m [] None pays e = tt
+  give_falls root true c k a m [] None pays e = refl
   give_falls root true c k a m [] (Some y) pays e = tt
   give_falls root true c k a m (f ∷ fs) x pays e = omega (arith, pays refl, waiting f.items e)
     where
@@ -255,3 +255,7 @@ module _ {A : Type 0} (make : Kind → List ℕ → List A → A) where
       let h : Falls (plan make root st x w) x (state_energy st) = falls root st x w in
       let g : (is_some x ≡ true) × (state_energy st2 < state_energy st + 20) = rw e at h in
       omega (arith, g.1, le)
+
+  -- a step that ends has no symbol left
+  pub end_none : (root : Class) (st : State A) (t : A) (x : Option Lexeme) (w : List ℕ) → plan make root st x w ≡ End t → x ≡ None
+  end_none root st t x w e = rw e at (falls root st x w)

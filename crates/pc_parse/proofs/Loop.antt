@@ -1,13 +1,14 @@
 -- What a turn of the loop needs and leaves.
-use Rattle.std.proofs.Common.{◌≡◌, ℕ, zero, suc, ◌+◌, ◌-◌, ◌<◌, ◌≤◌, min, nat_le, Bool, true, false, if◌then◌else◌, List, [], ◌∷◌, Option, Some, None, length, drop, refl, ap, sym, ◌∙◌, add-one, arith}
-use Rattle.std.proofs.lemmas.Bool.{leb-true, leb-false, le-leb}
+use Rattle.std.proofs.Common.{◌≡◌, ℕ, zero, suc, ◌+◌, ◌-◌, ◌<◌, ◌≤◌, ◌⊎◌, inl, inr, nat_le, Bool, true, false, if◌then◌else◌, List, [], ◌∷◌, Option, Some, None, length, drop, refl, ap, sym, ◌∙◌, add-one, arith}
+use Rattle.std.proofs.lemmas.Bool.{leb-true, leb-false}
 use Rattle.pc_syntax.specs.declared.lexeme.Lexeme.{Lexeme}
 use Rattle.pc_syntax.specs.declared.lexeme.Lexeme.TheVariants as lexeme
 use Rattle.pc_syntax.specs.declared.sort.Sort.{Sort}
 use Rattle.pc_syntax.specs.declared.class.Class.{Class}
 use Rattle.pc_syntax.specs.Plain.{Plain}
 use Rattle.pc_syntax.specs.Symbols.{Sym}
-use Rattle.pc_syntax.specs.WellFormed.{depth_of, size_of, size_limit}
+use Rattle.pc_syntax.specs.WellFormed.{depth_of, size_of, depth_limit, size_limit}
+use Rattle.pc_syntax.specs.Measured.{level_count, node_count}
 use Rattle.pc_lex.specs.declared.symbol.Symbol.{Symbol}
 use Rattle.pc_lex.specs.declared.symbol.Lexed.{Lexed}
 use Rattle.pc_lex.specs.Views.{IsLexed, plain_symbols, syms}
@@ -31,7 +32,7 @@ use Rattle.pc_parse.proofs.NotedPartial.{begins_noted, begins_bare}
 use Rattle.pc_parse.specs.Views.{frame_view, state_view, row_view, IsBuildable}
 use Rattle.pc_parse.proofs.Energy.{is_some}
 use Rattle.pc_parse.proofs.Entries.{&&_split, &&_join}
-use Rattle.pc_parse.proofs.Reached.{Reached, energy_kept, moved_on, moved_falls, took_on, took_has, took_falls, ended_with, stuck_at, refused_at, held_proper, closing_proper}
+use Rattle.pc_parse.proofs.Reached.{Reached, energy_kept, moved_on, moved_falls, took_on, took_has, took_falls, ended_with, ended_none, stuck_at, refused_at, held_proper, closing_proper}
 use Rattle.pc_parse.proofs.Sound.{sound}
 use Rattle.pc_parse.proofs.Complete.{unique_sort, unfit_sort}
 use Rattle.pc_parse.proofs.Least.{begins_before, begins_none}
@@ -49,7 +50,13 @@ has_drop zero (x ∷ xs) h = omega arith
 has_drop (suc n) [] h = cc
 has_drop (suc n) (x ∷ xs) h = omega (arith, has_drop n xs h)
 
-length-plain_symbols : (xs : List Symbol) → length (plain_symbols xs) ≡ length xs
+all_dropped : (n : ℕ) (xs : List Symbol) → n ≤ length xs → look (syms (plain_symbols (drop n xs))) ≡ None → n ≡ length xs
+all_dropped zero [] le h = refl
+all_dropped zero (x ∷ xs) le h = cc
+all_dropped (suc n) [] le h = omega (arith, le)
+all_dropped (suc n) (x ∷ xs) le h = ap suc (all_dropped n xs (omega (arith, le)) h)
+
+pub length-plain_symbols : (xs : List Symbol) → length (plain_symbols xs) ≡ length xs
 length-plain_symbols [] = refl
 length-plain_symbols (x ∷ xs) = ap suc (length-plain_symbols xs)
 
@@ -97,13 +104,13 @@ buildable c input position.Opening fs ys clean r = tt
 buildable c input (position.Within f) fs ys clean r = λ k m ends some. closing_proper c input (frame_view f) fs ys k m clean r ends some
 buildable c input (position.Ended n) fs ys clean r = held_proper c input n.kind n.word.now (row_view n.kids) fs ys clean r
 
--- the tree with which the machine ends is the only one that has the symbols
-pub found : (s : Sort) (xs : List Symbol) (at : ℕ) (st : measured.State) (p : measured.Plan) (k : Cut) → Proper (syms (plain_symbols xs)) → Turn (class_of s) xs at st p → p ≡ measured.End k
-    → (t : Plain) × IsFound (class_of s) (plain_symbols xs) t × (k ≡ cut t)
-found s xs at st p k clean t e =
+-- the tree with which the machine ends is the only one that has the symbols, and they are all taken
+pub found : (s : Sort) (xs : List Symbol) (at : ℕ) (st : measured.State) (p : measured.Plan) (k : Cut) → Proper (syms (plain_symbols xs)) → at ≤ length xs → Turn (class_of s) xs at st p → p ≡ measured.End k
+    → (t : Plain) × IsFound (class_of s) (plain_symbols xs) t × (k ≡ cut t) × (at ≡ length (plain_symbols xs))
+found s xs at st p k clean within t e =
     let r = ended_with (class_of s) (syms (plain_symbols xs)) st _ t.reached p t.planned k e in
     let h : ReadsBare (class_of s) r.0 (syms (plain_symbols xs)) = sound (class_of s) (syms (plain_symbols xs)) r.1 r.0 clean r.2 in
-    (r.0, record { reads = h; only = λ u i. unique_sort s r.0 u (syms (plain_symbols xs)) h i }, r.3)
+    (r.0, record { reads = h; only = λ u i. unique_sort s r.0 u (syms (plain_symbols xs)) h i }, r.3, all_dropped at xs within (ended_none (class_of s) (syms (plain_symbols xs)) st _ t.reached p t.planned k e) ∙ sym (length-plain_symbols xs))
 
 -- where the machine refuses a symbol, no tree has the symbols, and those up to that symbol are the first that begin no text
 pub missed : (s : Sort) (xs : List Symbol) (at : ℕ) (st : measured.State) (p : measured.Plan) → Proper (syms (plain_symbols xs)) → at ≤ length xs → Turn (class_of s) xs at st p → p ≡ measured.Stuck
@@ -144,11 +151,11 @@ module _ (t : Plain) (k : Cut) (e : k ≡ cut t) where
   unfolding cut
   kept_tree = ap (λ (x : Cut). x.tree) e
 
-  pub kept_depth : k.depth ≡ min (depth_of t) 4294967295
+  pub kept_depth : k.depth ≡ level_count t
   unfolding cut
   kept_depth = ap (λ (x : Cut). x.depth) e
 
-  kept_size : k.size ≡ min (size_of t) 18446744073709551615
+  pub kept_size : k.size ≡ node_count t
   unfolding cut
   kept_size = ap (λ (x : Cut). x.size) e
 
@@ -160,24 +167,16 @@ module _ (t : Plain) (k : Cut) (e : k ≡ cut t) where
       go : (b : Bool) → is_within (depth_of t) (size_of t) ≡ b → (u ≡ t) × IsWithin t
       go true i =
           let p : Some u ≡ Some t = sym h ∙ kept_tree t k e ∙ ap (λ c. if c then Some t else None) i in
-          let q : (nat_le (depth_of t) 256 ≡ true) × (nat_le (size_of t) size_limit ≡ true) = &&_split _ _ i in
+          let q : (nat_le (depth_of t) depth_limit ≡ true) × (nat_le (size_of t) size_limit ≡ true) = &&_split _ _ i in
           (cc, record { shallow = leb-true _ _ q.0; small = leb-true _ _ q.1 })
       go false i = let p : Some u ≡ None = sym h ∙ kept_tree t k e ∙ ap (λ c. if c then Some t else None) i in cc
 
-  over : k.tree ≡ None → depth_of t ≤ 256 → size_limit < size_of t
-  over h d = go (nat_le (size_of t) size_limit) refl
+  pub told_over : k.tree ≡ None → (depth_limit < depth_of t) ⊎ (size_limit < size_of t)
+  told_over h = go (nat_le (depth_of t) depth_limit) (nat_le (size_of t) size_limit) refl refl
     where
-      go : (b : Bool) → nat_le (size_of t) size_limit ≡ b → size_limit < size_of t
-      go true i =
-          let w : is_within (depth_of t) (size_of t) ≡ true = &&_join _ _ (le-leb (depth_of t) 256 d) i in
+      go : (b c : Bool) → nat_le (depth_of t) depth_limit ≡ b → nat_le (size_of t) size_limit ≡ c → (depth_limit < depth_of t) ⊎ (size_limit < size_of t)
+      go false c i j = inl (leb-false (depth_of t) depth_limit i)
+      go true false i j = inr (leb-false (size_of t) size_limit j)
+      go true true i j =
+          let w : is_within (depth_of t) (size_of t) ≡ true = &&_join _ _ i j in
           let p : None ≡ Some t = sym h ∙ kept_tree t k e ∙ ap (λ c. if c then Some t else None) w in cc
-      go false i = leb-false (size_of t) size_limit i
-
-  pub told_deep : 256 < k.depth → (256 < depth_of t) × (k.depth ≡ min (depth_of t) 4294967295)
-  told_deep d = let q = kept_depth t k e in (omega arith, q)
-
-  pub told_large : k.tree ≡ None → k.depth ≤ 256 → (depth_of t ≤ 256) × (size_limit < size_of t) × (k.size ≡ min (size_of t) 18446744073709551615)
-  told_large h d =
-      let q = kept_depth t k e in
-      let shallow : depth_of t ≤ 256 = omega arith in
-      (shallow, over h shallow, kept_size t k e)

@@ -13,7 +13,7 @@ use Rattle.pc_syntax.specs.declared.item.Item.{Item}
 use Rattle.pc_syntax.specs.declared.item.Item.TheVariants.{Literal, Word, Kid}
 use Rattle.pc_syntax.specs.Classes.{has}
 use Rattle.pc_syntax.specs.Plain.{Plain, node, forest_of}
-use Rattle.pc_syntax.specs.WellFormed.{size_in, size_of, depth_in, depth_of, size_limit, size_limit-is}
+use Rattle.pc_syntax.specs.WellFormed.{size_in, size_of, depth_in, depth_of, depth_limit, size_limit, size_limit-is}
 use Rattle.pc_syntax.specs.Parts.{largest}
 use Rattle.pc_syntax.specs.PartsLaws.{node-is, size_in-forest_of, depth_in-forest_of}
 use Rattle.pc_parse.specs.declared.rows.Cut.{Cut}
@@ -66,9 +66,9 @@ leb_same a b c d to back = go (nat_le a b) (nat_le c d) refl refl
     go true false p q = absurd (no_both c d (to (leb-true a b p)) q)
     go false true p q = absurd (no_both a b (back (leb-true c d q)) p)
 
-within_same : (a b m n : ℕ) → (a ≤ 256 → b ≤ 256) → (b ≤ 256 → a ≤ 256) → (m ≤ size_limit → n ≤ size_limit) → (n ≤ size_limit → m ≤ size_limit)
+within_same : (a b m n : ℕ) → (a ≤ depth_limit → b ≤ depth_limit) → (b ≤ depth_limit → a ≤ depth_limit) → (m ≤ size_limit → n ≤ size_limit) → (n ≤ size_limit → m ≤ size_limit)
     → is_within a m ≡ is_within b n
-within_same a b m n p q r t = λ i. leb_same a 256 b 256 p q i && leb_same m size_limit n size_limit r t i
+within_same a b m n p q r t = λ i. leb_same a depth_limit b depth_limit p q i && leb_same m size_limit n size_limit r t i
 
 -- a node is kept as what is made of its kids as they are kept
 pub made-row_of : (k : Kind) (w : List ℕ) (ts : List Plain) → cut (make_plain k w ts) ≡ made k w (row_of ts)
@@ -126,11 +126,11 @@ row_of-push ts t =
       where
         go : (b : Bool) → is_within (1 + max d e) (1 + (s + n)) ≡ b → (if b then Some (ts ++ t ∷ []) else None) ≡ joined b (if is_within (1 + d) (1 + s) then Some ts else None) (if is_within e n then Some t else None)
         go true h =
-            let p : (nat_le (1 + max d e) 256 ≡ true) × (nat_le (1 + (s + n)) size_limit ≡ true) = &&_split _ _ h in
-            let q : 1 + max d e ≤ 256 = leb-true _ _ p.0 in
+            let p : (nat_le (1 + max d e) depth_limit ≡ true) × (nat_le (1 + (s + n)) size_limit ≡ true) = &&_split _ _ h in
+            let q : 1 + max d e ≤ depth_limit = leb-true _ _ p.0 in
             let r : 1 + (s + n) ≤ size_limit = leb-true _ _ p.1 in
-            let x : is_within (1 + d) (1 + s) ≡ true = &&_join _ _ (le-leb (1 + d) 256 (omega arith)) (le-leb (1 + s) size_limit (omega arith)) in
-            let y : is_within e n ≡ true = &&_join _ _ (le-leb e 256 (omega arith)) (le-leb n size_limit (omega arith)) in
+            let x : is_within (1 + d) (1 + s) ≡ true = &&_join _ _ (le-leb (1 + d) depth_limit (omega arith)) (le-leb (1 + s) size_limit (omega arith)) in
+            let y : is_within e n ≡ true = &&_join _ _ (le-leb e depth_limit (omega arith)) (le-leb n size_limit (omega arith)) in
             rw (x, y) refl
         go false h = refl
 

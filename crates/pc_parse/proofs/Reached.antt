@@ -8,7 +8,7 @@ use Rattle.pc_syntax.specs.declared.class.Class.{Class}
 use Rattle.pc_syntax.specs.declared.item.Item.{Item}
 use Rattle.pc_syntax.specs.Plain.{Forest, Nil, Cons, Plain, node, count}
 use Rattle.pc_syntax.specs.Symbols.{Sym}
-use Rattle.pc_syntax.specs.WellFormed.{WellFormed, IsProper, depth_of, size_of, size_limit, takes_notes}
+use Rattle.pc_syntax.specs.WellFormed.{WellFormed, IsProper, depth_of, size_of, depth_limit, size_limit, takes_notes}
 use Rattle.pc_parse.specs.declared.rows.Cut.{Cut}
 use Rattle.pc_parse.specs.Reading.{Good, IsGood}
 use Rattle.pc_parse.specs.Lookahead.{look, word_at, after}
@@ -22,7 +22,7 @@ use Rattle.pc_parse.specs.Tables.{closes}
 use Rattle.pc_parse.specs.Energy.{energy, below_energy}
 use Rattle.pc_parse.proofs.Entries.{&&_split}
 use Rattle.pc_parse.proofs.Payload.{frame_kept, state_kept, plan_kept, made-row_of, has_kids-row_of, plan_natural}
-use Rattle.pc_parse.proofs.Energy.{is_some, stay_falls, take_has, take_falls_by}
+use Rattle.pc_parse.proofs.Energy.{is_some, stay_falls, take_has, take_falls_by, end_none}
 use Rattle.pc_parse.proofs.SoundStates.{StepOk}
 use Rattle.pc_parse.proofs.SoundCloses.{closed_good}
 use Rattle.pc_parse.proofs.Sound.{exec_ok}
@@ -146,6 +146,11 @@ module _ (c : Class) (input : List Sym) (s : measured.State) (ys : List Sym) (r 
       let i : step c r.state ys ≡ Accept q.0 = ap (λ o. apply o ys) q.1 in
       (q.0, suc r.count, exec_then c r.count Opening input r.state ys r.run ∙ i, q.2)
 
+  pub ended_none : (k : Cut) → p ≡ measured.End k → look ys ≡ None
+  ended_none k h =
+      let q = end_of (plan make_plain c r.state (look ys) (word_at ys)) k (planned c input s ys p r e ∙ h) in
+      end_none make_plain c r.state q.0 (look ys) (word_at ys) q.1
+
   -- a step that refuses the symbol
   pub stuck_at : p ≡ measured.Stuck → plan make_plain c r.state (look ys) (word_at ys) ≡ Stuck
   stuck_at h = stuck_of (plan make_plain c r.state (look ys) (word_at ys)) (planned c input s ys p r e ∙ h)
@@ -177,7 +182,7 @@ made_proper k w ts t good e = go (is_within (depth_of t) (size_of t)) refl
     go true h =
         let p : Some (node k w [] ts) ≡ Some t = e ∙ ap (λ b. if b then Some t else None) h in
         let same : node k w [] ts ≡ t = cc in
-        let q : (nat_le (depth_of t) 256 ≡ true) × (nat_le (size_of t) size_limit ≡ true) = &&_split _ _ h in
+        let q : (nat_le (depth_of t) depth_limit ≡ true) × (nat_le (size_of t) size_limit ≡ true) = &&_split _ _ h in
         let proper : IsProper t = record { sound = good_formed (Cons t.kind t.word t.notes t.kids Nil) good; shallow = leb-true _ _ q.0; small = leb-true _ _ q.1 } in
         rw same proper
     go false h = let p : Some (node k w [] ts) ≡ None = e ∙ ap (λ b. if b then Some t else None) h in cc

@@ -12,9 +12,9 @@ use Rattle.pc_layout.specs.Noted.{Notes, noted_tree, unnoted, notes_in, notes_of
 use Rattle.pc_layout.specs.NotedLaws.{symbols_of-noted, size_of-noted, depth_of-noted, noted_tree-again, IsWellFormed-noted, HasNotes-noted, are_comments, Bare, IsBare, unnoted-bare}
 use Rattle.pc_parse.specs.Comments.{symbol_notes}
 use Rattle.pc_parse.specs.Reading.{Good, ReadsBare, Reads, class_of}
-use Rattle.pc_parse.specs.declared.error.ParseError.{ParseError}
-use Rattle.pc_parse.specs.declared.error.ParseError.TheVariants.{NotFit, TooDeep, TooLarge, NoMemory}
-use Rattle.pc_parse.specs.Answers.{IsRead, IsWithin, Answered}
+use Rattle.pc_parse.specs.declared.error.Unread.{Unread}
+use Rattle.pc_parse.specs.declared.error.Unread.TheVariants.{NotFit, Over, NoMemory}
+use Rattle.pc_parse.specs.Answers.{IsRead, IsWithin, ReadOrMeasured}
 use Rattle.pc_parse.specs.Ends.{IsFound, Tells}
 use Rattle.pc_parse.proofs.Reached.{good_formed}
 use Rattle.pc_parse.proofs.Complete.{unique_sort}
@@ -58,16 +58,13 @@ one_tree s t u ys r q = unique_sort s (unnoted t) (unnoted u) ys (bare_reads (cl
 
 -- what is told of the tree without notes holds of that with notes
 module _ (c : Class) (text : List ℕ) (ss : List PlainSymbol) (tail : List Span) (t : Plain) (comments : are_comments (symbol_notes text ss) ≡ true) (found : IsFound c ss t) where
-  pub told_error : (e : ParseError) → Tells t (Err e) → Answered c text ss tail (Err e)
-  told_error (NotFit k) h = absurd h
-  told_error (TooDeep d) h =
-      let same : depth_of (noted_tree t (symbol_notes text ss)) ≡ depth_of t = depth_of-noted t (symbol_notes text ss) in
-      record { tree = noted_tree t (symbol_notes text ss); read = noted_read c text ss t comments found; deep = omega (arith, same, h.0); number = omega (arith, same, h.1) }
-  told_error (TooLarge n) h =
+  pub told_unread : (e : Unread) → Tells t (Err e) → ReadOrMeasured c text ss tail (Err e)
+  told_unread (NotFit k) h = absurd h
+  told_unread (Over d n) h =
       let deep : depth_of (noted_tree t (symbol_notes text ss)) ≡ depth_of t = depth_of-noted t (symbol_notes text ss) in
       let large : size_of (noted_tree t (symbol_notes text ss)) ≡ size_of t = size_of-noted t (symbol_notes text ss) in
-      record { tree = noted_tree t (symbol_notes text ss); read = noted_read c text ss t comments found; shallow = omega (arith, deep, h.0); large = omega (arith, large, h.1); number = omega (arith, large, h.2) }
-  told_error NoMemory h = absurd h
+      record { tree = noted_tree t (symbol_notes text ss); read = noted_read c text ss t comments found; over = rw (deep, large) h.0; levels = rw deep h.1; nodes = rw large h.2 }
+  told_unread NoMemory h = absurd h
 
   pub told_tree : (u : Plain) → u ≡ noted_tree t (symbol_notes text ss) → IsWithin t → IsRead c text ss u × IsWithin u
   told_tree u e w =

@@ -4,13 +4,13 @@ use Rattle.std.specs.Prelude.{ℕ, ◌==◌, not, ◌+◌, ◌-◌, ◌^◌, min
 use Rattle.std.specs.Option.{option_map}
 use Rattle.pc_syntax.specs.declared.kind.Kind.{Kind}
 use Rattle.pc_syntax.specs.Plain.{Plain, node}
-use Rattle.pc_syntax.specs.WellFormed.{size_of, depth_of, size_limit}
+use Rattle.pc_syntax.specs.WellFormed.{size_of, depth_of, depth_limit, size_limit}
 use Rattle.pc_syntax.specs.Parts.{largest}
 use Rattle.pc_parse.specs.declared.rows.Cut.{Cut}
 
 -- whether a tree of this depth and this size is within the limits
 abbrev pub is_within : ℕ → ℕ → Bool
-is_within d n = nat_le d 256 && nat_le n size_limit
+is_within d n = nat_le d depth_limit && nat_le n size_limit
 
 -- a number as the last value of its type where it passes that
 abbrev pub depth_kept : ℕ → ℕ

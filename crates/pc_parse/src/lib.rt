@@ -22,6 +22,6 @@ mod rows;
 mod tests;
 mod turns;
 
-pub use error::ParseError;
+pub use error::{ParseError, Unread};
 pub use laws::{one_number, one_tree, sorts_are_classes};
-pub use reading::{Reading, depth_of, read};
+pub use reading::{Reading, depth_of, read, read_or_measure};

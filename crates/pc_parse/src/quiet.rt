@@ -59,7 +59,7 @@ pub fn behind(tree: &Tree, start: usize) -> usize
 
 /// How many symbols a quiet node with so many kids has beside those of its kids.
 fn own_symbols(kind: Kind, kids: usize) -> usize
-    requires { kids < 1000000 }
+    requires { kids + 1 < 2 ^ 64 }
     ensures { result ≡ quiet.own_symbols kind kids }
 {
     match kind {

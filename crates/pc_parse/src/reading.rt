@@ -1,27 +1,26 @@
 //! Reading a tree from the symbols of a text.
 
-ghost use Rattle.std.specs.Prelude.{◌≡◌, ◌+◌, ◌<◌, ◌≤◌, IfOk, length, drop};
+ghost use Rattle.std.specs.Prelude.{◌≡◌, ◌+◌, ◌≤◌, ℕ, Err, IfOk, length, drop};
 ghost use Rattle.pc_syntax.specs.Plain.{Plain};
 ghost use Rattle.pc_lex.specs.Views.{IsLexed, plain_symbols, syms};
 ghost use Rattle.pc_layout.specs.NotedLaws.{IsBare};
 ghost use Rattle.pc_parse.specs.Proper.{Proper};
 ghost use Rattle.pc_parse.specs.Lookahead.{look, word_at};
 ghost use Rattle.pc_parse.specs.Reading.{class_of};
-ghost use Rattle.pc_parse.specs.Answers.{Answered, Deepens};
-ghost use Rattle.pc_parse.specs.Ends.{Ends, Tells, IsNoted};
+ghost use Rattle.pc_parse.specs.Answers.{Answered, ReadOrMeasured, Deepens};
+ghost use Rattle.pc_parse.specs.Ends.{Ends, Tells, FirstLimit, IsNoted};
 ghost use Rattle.pc_parse.specs.Placing.{breadth};
 ghost use Rattle.pc_parse.specs.Rows as rows;
 
-use crate::error::ParseError;
+use crate::error::{ParseError, Unread};
 use crate::leaves::Leaves;
 use crate::machine::{Frame, Outcome, Position, step};
 use crate::notes::{comments_in, place_notes};
 use crate::rows::Cut;
 use pc_lex::{Lexed, Symbol, SymbolKind};
-use pc_syntax::{Class, Lexeme, Sort, Steps, Tree};
+use pc_syntax::{Class, Lexeme, Sort, Steps, Tree, depth_limit};
 use std::alloc::{AllocError, Global};
-use std::marker::Brand;
-use std::sync::ledger::{Blank, Ledger};
+use std::sync::ledger::Ledger;
 
 /// A text that was read: its tree, and how many of its comments are not kept.
 #[derive(Drop)]
@@ -32,8 +31,8 @@ pub struct Reading {
 
 /// The one tree of the sort that has the symbols of the text, and of their comments those that its nodes bear. `NotFit`
 /// exactly where no tree has the symbols, with the least number of them that begin no text of the sort; `TooDeep` or
-/// `TooLarge` where the tree has more than 256 levels or too many nodes. It takes at most one step of work for each
-/// symbol.
+/// `TooLarge` where the tree has more than 256 levels or too many nodes. It takes one step of work for each symbol of a
+/// text that it gives the tree of, and else at most one for each symbol up to the one that doesn't fit.
 pub fn read<L: Ledger>(
     alloc: Global,
     sort: Sort,
@@ -43,16 +42,60 @@ pub fn read<L: Ledger>(
     requires { IsLexed lexed.now }
     ensures answered { Answered (class_of sort) lexed.now.text.now (plain_symbols lexed.now.symbols.items) lexed.now.tail.items result }
     ensures work { work.new ≤ work.old + length lexed.now.symbols.items }
+    ensures whole { IfOk result (λ _. work.new ≡ work.old + length lexed.now.symbols.items) }
+    ensures refused { (k : ℕ) → result ≡ Err (ParseError.NotFit k) → work.new ≤ work.old + k }
 {
-    let cut = run(alloc, sort, &lexed.symbols, work)?;
+    match read_or_measure(alloc, sort, lexed, work) {
+        Ok(reading) => Ok(reading),
+        Err(unread) => Err(first_limit(unread)),
+    }
+}
+
+/// The same as `read`, but of a tree over a limit both numbers are told: how many levels and how many nodes it has.
+pub fn read_or_measure<L: Ledger>(
+    alloc: Global,
+    sort: Sort,
+    lexed: &Lexed,
+    work: &mut Steps<L>,
+) -> Result<Reading, Unread>
+    requires { IsLexed lexed.now }
+    ensures answered { ReadOrMeasured (class_of sort) lexed.now.text.now (plain_symbols lexed.now.symbols.items) lexed.now.tail.items result }
+    ensures work { work.new ≤ work.old + length lexed.now.symbols.items }
+    ensures whole { IfOk result (λ _. work.new ≡ work.old + length lexed.now.symbols.items) }
+    ensures refused { (k : ℕ) → result ≡ Err (Unread.NotFit k) → work.new ≤ work.old + k }
+{
+    let Run { end, taken } = run_machine(alloc, sort, &lexed.symbols);
+    work.tick_by(taken as u64);
+    let cut = match end {
+        End::Made(cut) => cut,
+        End::Refused => return Err(Unread::NotFit(taken as u64 + 1)),
+        End::NoMemory => return Err(Unread::NoMemory),
+    };
     let tree = match tell(cut) {
         Ok(tree) => tree,
-        Err(error) => return Err(error),
+        Err(unread) => return Err(unread),
     };
     let Ok(reading) = with_notes(alloc, tree, lexed) else {
-        return Err(ParseError::NoMemory);
+        return Err(Unread::NoMemory);
     };
     Ok(reading)
+}
+
+/// The same with the first limit alone that the tree is over: that of the levels, or else that of the nodes.
+fn first_limit(unread: Unread) -> ParseError
+    ensures { FirstLimit unread result }
+{
+    match unread {
+        Unread::NotFit(number) => ParseError::NotFit(number),
+        Unread::Over { depth, size } => {
+            if depth > depth_limit() {
+                ParseError::TooDeep(depth)
+            } else {
+                ParseError::TooLarge(size)
+            }
+        }
+        Unread::NoMemory => ParseError::NoMemory,
+    }
 }
 
 /// The tree with its notes, and the number of comments that it doesn't keep.
@@ -84,58 +127,47 @@ pub fn depth_of(alloc: Global, sort: Sort, lexed: &Lexed) -> Result<Option<u32>,
     requires { IsLexed lexed.now }
     ensures { IfOk result (Deepens (class_of sort) lexed.now.text.now (plain_symbols lexed.now.symbols.items)) }
 {
-    match run_alone::<Brand>(alloc, sort, &lexed.symbols, Blank::new(1)) {
-        Ok(cut) => Ok(Some(cut.depth)),
-        Err(ParseError::NoMemory) => Err(AllocError),
-        Err(_) => Ok(None),
+    let Run { end, taken: _ } = run_machine(alloc, sort, &lexed.symbols);
+    match end {
+        End::Made(cut) => Ok(Some(cut.depth)),
+        End::Refused => Ok(None),
+        End::NoMemory => Err(AllocError),
     }
 }
 
-/// Runs the machine to its end, with a counter of its own.
-fn run_alone<L: Ledger>(
-    alloc: Global,
-    sort: Sort,
-    symbols: &[Symbol],
-    blank: Blank,
-) -> Result<Cut, ParseError>
-    requires proper { Proper (syms (plain_symbols symbols.now)) }
-    requires name { blank.name ≡ L.name }
-    requires parts { blank.parts ≡ L.parts }
-    requires some { 0 < blank.parts }
-    ensures { Ends (class_of sort) (plain_symbols symbols.now) result }
-{
-    let mut work = Steps::<L>::new(blank);
-    run(alloc, sort, symbols, &mut work)
+/// How a run of the machine ended, and how many symbols it took.
+#[derive(Drop)]
+struct Run {
+    end: End,
+    taken: usize,
+}
+
+/// What a run of the machine comes to: what is kept of the tree, a symbol or an end that doesn't fit, or want of memory.
+#[derive(Drop)]
+enum End {
+    Made(Cut),
+    Refused,
+    NoMemory,
 }
 
 /// Runs the machine to its end.
-fn run<L: Ledger>(
-    alloc: Global,
-    sort: Sort,
-    symbols: &[Symbol],
-    work: &mut Steps<L>,
-) -> Result<Cut, ParseError>
+fn run_machine(alloc: Global, sort: Sort, symbols: &[Symbol]) -> Run
     requires { Proper (syms (plain_symbols symbols.now)) }
-    ensures ends { Ends (class_of sort) (plain_symbols symbols.now) result }
-    ensures work { work.new ≤ work.old + length symbols.now }
+    ensures { Ends (class_of sort) (plain_symbols symbols.now) result }
 {
     let Ok(mut leaves) = Leaves::new(alloc) else {
-        return Err(ParseError::NoMemory);
+        return Run {
+            end: End::NoMemory,
+            taken: 0,
+        };
     };
-    turn_by_turn(alloc, sort, symbols, &mut leaves, work)
+    turn_by_turn(alloc, sort, symbols, &mut leaves)
 }
 
-/// Runs the machine to its end, with leaves that may be shared.
-fn turn_by_turn<L: Ledger>(
-    alloc: Global,
-    sort: Sort,
-    symbols: &[Symbol],
-    leaves: &mut Leaves,
-    work: &mut Steps<L>,
-) -> Result<Cut, ParseError>
+/// Runs the machine to its end, with leaves that may be shared, and counts the symbols that it takes.
+fn turn_by_turn(alloc: Global, sort: Sort, symbols: &[Symbol], leaves: &mut Leaves) -> Run
     requires { Proper (syms (plain_symbols symbols.now)) }
-    ensures ends { Ends (class_of sort) (plain_symbols symbols.now) result }
-    ensures work { work.new ≤ work.old + length symbols.now }
+    ensures { Ends (class_of sort) (plain_symbols symbols.now) result }
 {
     let root = class_of(sort);
     let mut below: Vec<Frame> = Vec::new(alloc);
@@ -146,17 +178,29 @@ fn turn_by_turn<L: Ledger>(
         let next = next_lexeme(rest);
         let word = next_word(rest);
         let Ok(outcome) = step(alloc, root, position, &mut below, next, word, leaves) else {
-            return Err(ParseError::NoMemory);
+            return Run {
+                end: End::NoMemory,
+                taken: at,
+            };
         };
         match outcome {
             Outcome::Moved(to) => position = to,
             Outcome::Took(to) => {
                 position = to;
                 at += 1;
-                work.tick();
             }
-            Outcome::Accepted(cut) => return Ok(cut),
-            Outcome::Refused => return Err(ParseError::NotFit(at as u64 + 1)),
+            Outcome::Accepted(cut) => {
+                return Run {
+                    end: End::Made(cut),
+                    taken: at,
+                };
+            }
+            Outcome::Refused => {
+                return Run {
+                    end: End::Refused,
+                    taken: at,
+                };
+            }
         }
     }
 }
@@ -215,14 +259,13 @@ fn next_word<'a>(rest: &[Symbol<'a>]) -> &'a [u8]
     }
 }
 
-/// The tree where it is within the limits.
-fn tell(cut: Cut) -> Result<Tree, ParseError>
+/// The tree where it is within the limits, and else its numbers.
+fn tell(cut: Cut) -> Result<Tree, Unread>
     ensures { (t : Plain) → cut ≡ rows.cut t → Tells t result }
 {
     let Cut { depth, size, tree } = cut;
     match tree {
         Some(tree) => Ok(tree),
-        None if depth > 256 => Err(ParseError::TooDeep(depth)),
-        None => Err(ParseError::TooLarge(size)),
+        None => Err(Unread::Over { depth, size }),
     }
 }

@@ -4,12 +4,12 @@
 
 ghost use Rattle.std.specs.Prelude.{◌≡◌, ◌+◌, IfOk, [], IfSome};
 ghost use Rattle.pc_syntax.specs.Plain.{node};
-ghost use Rattle.pc_syntax.specs.WellFormed.{size_limit, IsProper};
+ghost use Rattle.pc_syntax.specs.WellFormed.{IsProper};
 ghost use Rattle.pc_parse.specs.Rows.{is_within, no_kids, has_kids, made, added, joined};
 ghost use Rattle.pc_parse.specs.Views.{row_view, trees_view};
 
 use crate::leaves::Leaves;
-use pc_syntax::{Kind, Tree};
+use pc_syntax::{Kind, Tree, depth_limit, size_limit};
 use std::alloc::{AllocError, Global};
 
 /// A tree as it is kept: its depth and its size, each as the last value of its type where it
@@ -89,18 +89,11 @@ fn join(
     Ok(Some(trees))
 }
 
-/// The most nodes of a tree.
-fn size_limit() -> u64
-    ensures { result ≡ size_limit }
-{
-    1_000_000
-}
-
 /// Whether a node over kids of this depth and this size is within the limits.
 fn is_within(depth: u32, size: u64) -> bool
     ensures { result ≡ is_within (depth + 1) (size + 1) }
 {
-    depth < 256 && size < size_limit()
+    depth < depth_limit() && size < size_limit()
 }
 
 impl<'a> Node<'a> {

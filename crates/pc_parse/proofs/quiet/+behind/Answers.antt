@@ -9,7 +9,9 @@ use Rattle.pc_parse.proofs.Breadths.{breadth-kids, quiet_kid, sum-more}
 use Rattle.pc_parse.proofs.quiet.+behind.Goals as goal
 
 pub own_symbols-requires : goal.own_symbols-requires
-own_symbols-requires t c = rw c.kid_slice-kids.ensures.value (small-kids c.args.tree.now c.kid_slice-kids.ensures.proper)
+own_symbols-requires t c =
+    let small : length c.kid_slice-kids.result.now < 1000000 = rw c.kid_slice-kids.ensures.value (small-kids c.args.tree.now c.kid_slice-kids.ensures.proper) in
+    omega (arith, small)
 
 pub overflow_add-at : goal.overflow_add-at
 overflow_add-at t c =

@@ -1,14 +1,14 @@
 use Rattle.std.proofs.Common.{◌-◌, length, ap, arith}
 use Rattle.pc_parse.specs.Reading.{class_of}
 use Rattle.pc_parse.specs.Views.{stack, state_view, outcome_view}
-use Rattle.pc_parse.proofs.Loop.{turn, moved, moved_less, took_one, took, took_less, buildable, found, missed}
+use Rattle.pc_parse.proofs.Loop.{turn, moved, moved_less, took_one, took, took_less, buildable, found, missed, length-plain_symbols}
 use Rattle.pc_parse.proofs.reading.turn_by_turn.Goals as goal
 
 pub step-requires : goal.step-requires
-step-requires g c = buildable _ _ c.reading.position _ _ c.requires c.reading.invariant.reached
+step-requires c = buildable _ _ c.reading.position _ _ c.requires c.reading.invariant.reached
 
 pub reading-smaller-in-Moved : goal.reading-smaller-in-Moved
-reading-smaller-in-Moved g c =
+reading-smaller-in-Moved c =
     let t =
     turn (class_of c.args.sort) c.class_of-root.result c.args.symbols.now c.reading.at (state_view c.reading.position (stack c.reading.below.items))
     (outcome_view c.in-Ok.outcome (stack c.step.new.below.items)) c.next_lexeme-next.result c.next_word-word.result.now c.rest_of-rest.result.now
@@ -16,15 +16,15 @@ reading-smaller-in-Moved g c =
     moved_less t (state_view c.in-Moved.to (stack c.step.new.below.items)) (length c.args.symbols.now - c.reading.at) (ap (λ o. outcome_view o (stack c.step.new.below.items)) c.in-Moved.is)
 
 pub reading-preserved-in-Moved : goal.reading-preserved-in-Moved
-reading-preserved-in-Moved g c =
+reading-preserved-in-Moved c =
     let t =
     turn (class_of c.args.sort) c.class_of-root.result c.args.symbols.now c.reading.at (state_view c.reading.position (stack c.reading.below.items))
     (outcome_view c.in-Ok.outcome (stack c.step.new.below.items)) c.next_lexeme-next.result c.next_word-word.result.now c.rest_of-rest.result.now
     c.reading.invariant.reached c.in-Ok.ensures c.reading.invariant.root c.next_lexeme-next.ensures c.next_word-word.ensures c.rest_of-rest.ensures in
-    record { root = c.reading.invariant.root; reached = moved t (state_view c.in-Moved.to (stack c.step.new.below.items)) (ap (λ o. outcome_view o (stack c.step.new.below.items)) c.in-Moved.is); within = c.reading.invariant.within; work = c.reading.invariant.work }
+    record { root = c.reading.invariant.root; reached = moved t (state_view c.in-Moved.to (stack c.step.new.below.items)) (ap (λ o. outcome_view o (stack c.step.new.below.items)) c.in-Moved.is); within = c.reading.invariant.within }
 
 pub reading-smaller : goal.reading-smaller
-reading-smaller g c =
+reading-smaller c =
     let t =
     turn (class_of c.args.sort) c.class_of-root.result c.args.symbols.now c.reading.at (state_view c.reading.position (stack c.reading.below.items))
     (outcome_view c.in-Ok.outcome (stack c.step.new.below.items)) c.next_lexeme-next.result c.next_word-word.result.now c.rest_of-rest.result.now
@@ -32,26 +32,26 @@ reading-smaller g c =
     took_less t (state_view c.in-Took.to (stack c.step.new.below.items)) (ap (λ o. outcome_view o (stack c.step.new.below.items)) c.in-Took.is)
 
 pub reading-preserved : goal.reading-preserved
-reading-preserved g c =
+reading-preserved c =
     let t =
     turn (class_of c.args.sort) c.class_of-root.result c.args.symbols.now c.reading.at (state_view c.reading.position (stack c.reading.below.items))
     (outcome_view c.in-Ok.outcome (stack c.step.new.below.items)) c.next_lexeme-next.result c.next_word-word.result.now c.rest_of-rest.result.now
     c.reading.invariant.reached c.in-Ok.ensures c.reading.invariant.root c.next_lexeme-next.ensures c.next_word-word.ensures c.rest_of-rest.ensures in
     let lt = took_one t (state_view c.in-Took.to (stack c.step.new.below.items)) (ap (λ o. outcome_view o (stack c.step.new.below.items)) c.in-Took.is) in
-    record { root = c.reading.invariant.root; reached = took t (state_view c.in-Took.to (stack c.step.new.below.items)) (ap (λ o. outcome_view o (stack c.step.new.below.items)) c.in-Took.is); within = omega (arith, lt); work = omega arith }
+    record { root = c.reading.invariant.root; reached = took t (state_view c.in-Took.to (stack c.step.new.below.items)) (ap (λ o. outcome_view o (stack c.step.new.below.items)) c.in-Took.is); within = omega (arith, lt) }
 
-pub returns-in-Accepted-clause-ends : goal.returns-in-Accepted-clause-ends
-returns-in-Accepted-clause-ends g c =
+pub returns-in-Accepted : goal.returns-in-Accepted
+returns-in-Accepted c =
     let t =
     turn (class_of c.args.sort) c.class_of-root.result c.args.symbols.now c.reading.at (state_view c.reading.position (stack c.reading.below.items))
     (outcome_view c.in-Ok.outcome (stack c.step.new.below.items)) c.next_lexeme-next.result c.next_word-word.result.now c.rest_of-rest.result.now
     c.reading.invariant.reached c.in-Ok.ensures c.reading.invariant.root c.next_lexeme-next.ensures c.next_word-word.ensures c.rest_of-rest.ensures in
-    found c.args.sort c.args.symbols.now c.reading.at _ _ c.in-Accepted.cut c.requires t (ap (λ o. outcome_view o (stack c.step.new.below.items)) c.in-Accepted.is)
+    record { within = omega (arith, length-plain_symbols c.args.symbols.now, c.reading.invariant.within); ends = found c.args.sort c.args.symbols.now c.reading.at _ _ c.in-Accepted.cut c.requires c.reading.invariant.within t (ap (λ o. outcome_view o (stack c.step.new.below.items)) c.in-Accepted.is) }
 
-pub returns-in-Refused-clause-ends : goal.returns-in-Refused-clause-ends
-returns-in-Refused-clause-ends g c =
+pub returns-in-Refused : goal.returns-in-Refused
+returns-in-Refused c =
     let t =
     turn (class_of c.args.sort) c.class_of-root.result c.args.symbols.now c.reading.at (state_view c.reading.position (stack c.reading.below.items))
     (outcome_view c.in-Ok.outcome (stack c.step.new.below.items)) c.next_lexeme-next.result c.next_word-word.result.now c.rest_of-rest.result.now
     c.reading.invariant.reached c.in-Ok.ensures c.reading.invariant.root c.next_lexeme-next.ensures c.next_word-word.ensures c.rest_of-rest.ensures in
-    missed c.args.sort c.args.symbols.now c.reading.at _ _ c.requires c.reading.invariant.within t (ap (λ o. outcome_view o (stack c.step.new.below.items)) c.in-Refused.is)
+    record { within = omega (arith, length-plain_symbols c.args.symbols.now, c.reading.invariant.within); ends = missed c.args.sort c.args.symbols.now c.reading.at _ _ c.requires c.reading.invariant.within t (ap (λ o. outcome_view o (stack c.step.new.below.items)) c.in-Refused.is) }
