@@ -1,6 +1,8 @@
 -- What holds of the form of a proper tree, and what holds of a proper tree since it holds of its form.
-use Rattle.std.proofs.Common.{◌≡◌, ◌+◌, ◌≤◌, true, sum_by, refl, sym, ◌∙◌, arith}
+use Rattle.std.proofs.Common.{◌≡◌, ℕ, List, ◌+◌, ◌≤◌, true, sum_by, refl, sym, ◌∙◌, arith}
 use Rattle.std.proofs.lemmas.Bool.{and_parts}
+use Rattle.pc_syntax.specs.declared.kind.Kind.{Kind}
+use Rattle.pc_syntax.specs.declared.kind.Kind.TheVariants.{Forward, Cnumber, Cstring, Number, Text, Name}
 use Rattle.pc_syntax.specs.Plain.{Forest, Nil, Cons, Plain, trees_of, kids_of}
 use Rattle.pc_syntax.specs.Fits.{word_fits}
 use Rattle.pc_syntax.specs.FitsLayoutLaws.{layout-forest}
@@ -9,12 +11,23 @@ use Rattle.pc_syntax.specs.Slots.{is_list}
 use Rattle.pc_syntax.specs.WellFormed.{WellFormed, IsProper, size_in, size_of, depth_in, depth_limit, size_limit}
 use Rattle.pc_forms.specs.CountLaws.{fixed_length, fixed_takes}
 use Rattle.pc_forms.specs.EveryLaws.{Every-from}
-use Rattle.pc_forms.specs.Form.{form_of, nothing}
+use Rattle.pc_forms.specs.Form.{form_from, form_of, nothing}
 use Rattle.pc_forms.specs.FormClasses.{Every, HasKids}
 use Rattle.pc_forms.specs.FormClassesLaws.{HasKids-from}
 use Rattle.pc_forms.specs.FormKids.{kids_in}
 use Rattle.pc_forms.specs.FormKidsLaws.{kids_in-form_from, kind_in-form_from}
 use Rattle.pc_forms.specs.FormKind.{kind_in}
+use Rattle.pc_forms.specs.FormWords.{word_fits_in}
+
+-- the form of a node has a word that it may have, where the node's kind may
+word_fits_in-form_from : {A : Type 0} (k : Kind) (w : List ℕ) (ks : List A) (d : A) → word_fits k w ≡ true → word_fits_in (form_from k w ks d) ≡ true
+word_fits_in-form_from Forward w ks d e = e
+word_fits_in-form_from Cnumber w ks d e = e
+word_fits_in-form_from Cstring w ks d e = e
+word_fits_in-form_from Number w ks d e = e
+word_fits_in-form_from Text w ks d e = e
+word_fits_in-form_from Name w ks d e = e
+word_fits_in-form_from _ w ks d e = refl
 
 -- a form has the kind of its tree
 pub kind_in-form_of : (p : Plain) → kind_in (form_of p) ≡ p.kind
@@ -39,11 +52,16 @@ module _ (p : Plain) (proper : IsProper p) where
   pub size-form_of : size_of p ≡ 1 + sum_by size_of (kids_in (form_of p))
   size-form_of = rw kids_in-form_of (size_of-kids p)
 
-  -- the word is one that the kind may have
-  pub word-form_of : word_fits p.kind p.word ≡ true
-  word-form_of =
+  -- the tree's word is one that its kind may have
+  pub fits-word : word_fits p.kind p.word ≡ true
+  fits-word =
       let a = and_parts (word_fits p.kind p.word) _ (sym (layout-forest p.kind p.word p.kids) ∙ proper.sound.0) in
       a.0
+
+  -- and the form's word is one that it may have
+  pub word-form_of : word_fits_in (form_of p) ≡ true
+  unfolding form_of
+  word-form_of = word_fits_in-form_from p.kind p.word (kids_of p) nothing fits-word
 
 -- what holds of a proper tree where it holds of the kids of its form holds of every proper tree
 module _ (R : Plain → Type 0) (step : (p : Plain) → IsProper p → Every R (kids_in (form_of p)) → R p) where

@@ -12,5 +12,7 @@ pub mod FormKidsLaws
 pub mod FormKind
 pub mod FormLaws
 pub mod FormMap
+pub mod FormWords
 pub mod Operators
+pub mod OperatorsLaws
 pub mod StatementForms

@@ -47,3 +47,31 @@ rel_of w =
     if is_spelling lexeme.Greater w then rel.Greater else
     if is_spelling lexeme.AtMost w then rel.AtMost else
     if is_spelling lexeme.AtLeast w then rel.AtLeast else rel.In
+
+-- the symbol that is written for a sign, for each operator, and for the direction of a `for`
+abbrev pub sign_symbol : Sign → Lexeme
+sign_symbol sign.Plus = lexeme.Plus
+sign_symbol sign.Minus = lexeme.Minus
+
+abbrev pub mul_symbol : MulOperator → Lexeme
+mul_symbol mul.Times = lexeme.Star
+mul_symbol mul.Div = lexeme.KeyDiv
+mul_symbol mul.Mod = lexeme.KeyMod
+mul_symbol mul.And = lexeme.KeyAnd
+
+abbrev pub add_symbol : AddOperator → Lexeme
+add_symbol add.Plus = lexeme.Plus
+add_symbol add.Minus = lexeme.Minus
+add_symbol add.Or = lexeme.KeyOr
+
+abbrev pub rel_symbol : RelOperator → Lexeme
+rel_symbol rel.Equal = lexeme.Equal
+rel_symbol rel.Unequal = lexeme.Unequal
+rel_symbol rel.Less = lexeme.Less
+rel_symbol rel.Greater = lexeme.Greater
+rel_symbol rel.AtMost = lexeme.AtMost
+rel_symbol rel.AtLeast = lexeme.AtLeast
+rel_symbol rel.In = lexeme.KeyIn
+
+abbrev pub direction_symbol : Bool → Lexeme
+direction_symbol downwards = if downwards then lexeme.KeyDownto else lexeme.KeyTo
