@@ -9,7 +9,6 @@ use Rattle.pc_syntax.specs.declared.sort.Sort.{Sort}
 use Rattle.pc_syntax.specs.Plain.{Forest, Nil, Cons, Plain, trees_of, forest_of, node, kids_of, count}
 use Rattle.pc_syntax.specs.Sorts.{is_hole}
 use Rattle.pc_syntax.specs.WellFormed.{size_in, size_of, depth_in, depth_of, holes_in, holes_of, opens, last_open, second_open, size_limit-is, IsProper}
-
 use Rattle.pc_syntax.specs.Parts.{largest, hole_count, is_open, kid_at}
 
 -- a forest and the list of its trees

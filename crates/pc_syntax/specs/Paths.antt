@@ -7,15 +7,19 @@ use Rattle.pc_syntax.specs.Words.{is_digit, is_name_form, value_after, lowered}
 use Rattle.pc_syntax.specs.declared.error.ReadError.{ReadError}
 use Rattle.pc_syntax.specs.declared.error.ReadError.TheVariants.{BadForm, NoMemory}
 
--- these parts, where they are at most 256
-abbrev pub at_most_256 : List (List ℕ) → Option (List (List ℕ))
-at_most_256 parts = if nat_le (length parts) 256 then Some parts else None
+-- the most steps of a path, and names of a key
+abbrev pub part_limit : ℕ
+part_limit = 256
+
+-- these parts, where they are within the limit
+abbrev pub within_limit : List (List ℕ) → Option (List (List ℕ))
+within_limit parts = if nat_le (length parts) part_limit then Some parts else None
 
 -- the parts that stand behind the mark at the front, with one mark between two; a mark alone has none
 unfoldable pub parts_behind : ℕ → List ℕ → Option (List (List ℕ))
 parts_behind mark [] = None
 parts_behind mark (b ∷ []) = if b == mark then Some [] else None
-parts_behind mark (b ∷ c ∷ bs) = if b == mark then at_most_256 (slice_split (λ d. d == mark) (c ∷ bs)) else None
+parts_behind mark (b ∷ c ∷ bs) = if b == mark then within_limit (slice_split (λ d. d == mark) (c ∷ bs)) else None
 
 -- the number of a step: a numeral from 1 to 4294967295 without a leading zero
 unfoldable pub step_of : List ℕ → Option ℕ
@@ -39,7 +43,7 @@ abbrev pub steps_of : List (List ℕ) → Option (List ℕ)
 steps_of [] = Some []
 steps_of (part ∷ parts) = step_and (step_of part) (steps_of parts)
 
--- the steps of a path: `/` alone is the root, else `/` stands before each of at most 256 numbers
+-- the steps of a path: `/` alone is the root, else `/` stands before each number, within the limit
 unfoldable pub path_of : List ℕ → Option (List ℕ)
 path_of word = option_and_then steps_of (parts_behind 47 word)
 
@@ -47,7 +51,7 @@ path_of word = option_and_then steps_of (parts_behind 47 word)
 abbrev pub is_small_name : List ℕ → Bool
 is_small_name word = is_name_form word && bytes_eq word (lowered word)
 
--- the names of a key: `.` alone is the program, else `.` stands before each of at most 256 names
+-- the names of a key: `.` alone is the program, else `.` stands before each name, within the limit
 unfoldable pub key_of : List ℕ → Option (List (List ℕ))
 key_of word = option_and_then (λ names. if list_all is_small_name names then Some names else None) (parts_behind 46 word)
 

@@ -3,7 +3,7 @@
 ghost use Rattle.std.specs.Prelude.{◌≡◌, ◌<◌, ◌≤◌, IfSome, length};
 ghost use Rattle.pc_syntax.specs.Plain.{Plain, kids_of};
 ghost use Rattle.pc_syntax.specs.Places.{with_kid};
-ghost use Rattle.pc_syntax.specs.Measured.{level_count, node_count, CountsWith};
+ghost use Rattle.pc_syntax.specs.Measured.{level_count, node_count, CountsWith, levels_with_kid, levels_with, nodes_with};
 
 use crate::outline::deepest_with;
 use crate::path::Path;
@@ -13,6 +13,7 @@ impl Tree {
     /// How many levels the whole tree would have with a piece of so many levels in the place of the node at a path, if there
     /// is such a node. A number that is too large for its type is the type's last, and so is that of the piece.
     pub fn depth_with(&self, path: &Path, depth: u32) -> Option<u32>
+        ensures value { result ≡ levels_with path.now self.now depth }
         ensures counts { CountsWith level_count self.now path.now depth result }
         ensures no_fewer { IfSome result (λ whole. depth ≤ whole) }
     {
@@ -22,6 +23,7 @@ impl Tree {
     /// How many nodes the whole tree would have with a piece of so many nodes in the place of the node at a path, if there is
     /// such a node. A number that is too large for its type is the type's last, and so is that of the piece.
     pub fn size_with(&self, path: &Path, size: u64) -> Option<u64>
+        ensures value { result ≡ nodes_with path.now self.now size }
         ensures counts { CountsWith node_count self.now path.now size result }
         ensures no_fewer { IfSome result (λ whole. size ≤ whole) }
     {
@@ -33,6 +35,7 @@ impl Tree {
 
 /// How many levels a tree would have with so many at the node with this path, if there is such a node.
 fn depth_at(tree: &Tree, steps: &[u32], depth: u32) -> Option<u32>
+    ensures value { result ≡ levels_with steps.now tree.now depth }
     ensures counts { CountsWith level_count tree.now steps.now depth result }
     ensures no_fewer { IfSome result (λ whole. depth ≤ whole) }
 {
@@ -47,6 +50,7 @@ fn depth_at(tree: &Tree, steps: &[u32], depth: u32) -> Option<u32>
 /// How many levels a tree would have with so many at its kid `i`, counted from 0.
 fn depth_with_kid(tree: &Tree, i: usize, depth: u32) -> u32
     requires { i < length (kids_of tree.now) }
+    ensures value { result ≡ levels_with_kid tree.now i depth }
     ensures counts { (q : Plain) → depth ≡ level_count q → result ≡ level_count (with_kid tree.now i q) }
     ensures no_fewer { depth ≤ result }
 {

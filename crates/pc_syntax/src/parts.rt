@@ -6,13 +6,11 @@ ghost use Rattle.std.specs.Result.{result_map_both};
 ghost use Rattle.pc_syntax.specs.Paths.{parts_behind, ReadsAs};
 
 use crate::error::ReadError;
+use crate::limits::part_limit;
 use std::alloc::{AllocError, Global};
 
-/// The most parts of a word.
-const MOST_PARTS: usize = 256;
-
 /// The parts behind the mark at the front of the word. `BadForm` where the word doesn't begin with the mark, or has
-/// over 256 parts.
+/// more parts than the limit.
 #[tactic(auto, unfolding(crate::specs::Paths::parts_behind))]
 pub fn parts_behind(alloc: Global, mark: u8, word: &[u8]) -> Result<Vec<&[u8]>, ReadError>
     ensures { ReadsAs (parts_behind mark word.now) (result_map_both (λ parts. map (λ part. part.now) parts.items) (λ e. e) result) }
@@ -26,7 +24,7 @@ pub fn parts_behind(alloc: Global, mark: u8, word: &[u8]) -> Result<Vec<&[u8]>, 
     if rest.is_empty() {
         return Ok(Vec::new(alloc));
     }
-    if MOST_PARTS <= count_marks(mark, rest) {
+    if part_limit() <= count_marks(mark, rest) {
         return Err(ReadError::BadForm);
     }
     let parts = cut(alloc, mark, rest)?;
