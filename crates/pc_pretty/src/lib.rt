@@ -5,6 +5,7 @@
 #![tactic(auto)]
 
 mod innermost;
+mod lines;
 mod places;
 mod printing;
 mod range;
@@ -17,6 +18,7 @@ mod text;
 #[cfg(test)]
 mod text_tests;
 
+pub use lines::places_are_counted;
 pub use printing::print;
 pub use range::Range;
 pub use round_trip::printed_reads_back;
