@@ -4,6 +4,7 @@ pub mod Back
 pub mod Calm
 pub mod Clean
 pub mod CommentFront
+pub mod CountedLines
 pub mod Deepest
 pub mod Forward
 pub mod FrontOf

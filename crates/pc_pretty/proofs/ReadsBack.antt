@@ -29,7 +29,7 @@ has_text c t text ss p m seen noted = record {
 }
 
 -- all comments are notes of the tree
-total-comments : (text : List ℕ) (ss : List PlainSymbol) → comments_in ss [] ≡ total (symbol_notes text ss)
+pub total-comments : (text : List ℕ) (ss : List PlainSymbol) → comments_in ss [] ≡ total (symbol_notes text ss)
 unfolding comments_in
 total-comments text [] = refl
 total-comments text (s ∷ ss) = omega (arith, length-map s.notes (bytes_at text), total-comments text ss)

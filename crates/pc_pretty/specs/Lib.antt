@@ -2,6 +2,7 @@ pub mod Innermost
 pub mod Joined
 pub mod Kept
 pub mod Laws
+pub mod LinesLaws
 pub mod Notes
 pub mod Preorder
 pub mod Printed

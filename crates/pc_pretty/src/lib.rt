@@ -5,6 +5,7 @@
 #![tactic(auto)]
 
 mod innermost;
+mod lines;
 mod places;
 mod printing;
 mod range;
@@ -13,6 +14,7 @@ mod spacing;
 mod spans;
 mod text;
 
+pub use lines::places_are_counted;
 pub use printing::print;
 pub use range::Range;
 pub use round_trip::printed_reads_back;
