@@ -27,7 +27,7 @@ pub enum Command {
 }
 
 /// What is to be shown.
-#[derive(Clone, Copy, Debug, PartialEq, Eq)]
+#[derive(Debug, Drop, PartialEq, Eq)]
 pub enum ViewName {
     /// The text of the program.
     Syntax,

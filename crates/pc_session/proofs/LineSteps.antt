@@ -7,8 +7,11 @@ use Rattle.std.proofs.lemmas.Bool.{cases_eq}
 use Rattle.pc_syntax.specs.Plain.{Plain}
 use Rattle.pc_session.specs.declared.history.Last.{Last}
 use Rattle.pc_session.specs.declared.history.Last.TheVariants.{Edited, Moved}
-use Rattle.pc_session.specs.Trees.{edited}
-use Rattle.pc_session.specs.Line.{none, trees_at, now_of, IsPlaced, settled}
+use Rattle.std.specs.List.{All}
+use Rattle.std.proofs.lemmas.List.Elements.{All-push}
+use Rattle.pc_session.specs.Trees.{IsProgram, edited}
+use Rattle.pc_session.specs.Line.{none, trees_at, now_of, IsPlaced, IsLine, settled}
+use Rattle.pc_session.proofs.ProgramSteps.{All-swap, settled-programs}
 
 -- An element that is put at a place, and what stood there at the end.
 module _ {X : Type 0} (xs : List X) (y d : X) (i : ℕ) (within : i ≤ length xs) where
@@ -82,3 +85,23 @@ module _ (last : Last) (line : List Plain) (place : ℕ) (tree : Plain) (placed 
       let back : swap_remove after (place + 1) none ≡ s = rw is (swap_remove-put s tree none (place + 1) (settled-long last line place placed)) in
       let same : place + 1 - 1 ≡ place = omega arith in
       rw (back, same) (settled-now last line place placed)
+
+  pub edit-line : All IsProgram line → IsProgram tree → IsLine Edited after (place + 1)
+  edit-line all program =
+      let s = settled last line place in
+      let long = settled-long last line place placed in
+      let pushed_long = length_push s tree in
+      let swapped = length-swap (s ++ tree ∷ []) (place + 1) (length s) in
+      let len : length after ≡ length (s ++ tree ∷ []) = rw is swapped in
+      let own : place + 1 < length (s ++ tree ∷ []) = omega (arith, long, pushed_long) in
+      let end_there : length s < length (s ++ tree ∷ []) = omega (arith, pushed_long) in
+      record {
+        placed = (omega arith, omega (arith, len, own));
+        programs = rw is (All-swap IsProgram (s ++ tree ∷ []) (place + 1) (length s) none own end_there (All-push IsProgram s tree (settled-programs last line place all) program));
+      }
+
+-- A line that is settled and keeps its place.
+pub kept-line : (last : Last) (line kept : List Plain) (place : ℕ) → IsLine last line place → kept ≡ settled last line place → IsLine (Moved place) kept place
+kept-line last line kept place is same =
+    let long = settled-long last line place is.placed in
+    record { placed = rw same (omega (arith, long), omega (arith, long)); programs = rw same (settled-programs last line place is.programs) }

@@ -8,7 +8,7 @@ use Rattle.pc_lex.specs.declared.error.LexError.{LexError}
 use Rattle.pc_lex.specs.declared.error.LexError.TheVariants.{BadByte, OpenComment, OpenString, EmptyString, LongNumeral, NoMemory}
 use Rattle.pc_lex.specs.Spells.{Spells, FirstFault}
 use Rattle.pc_lex.specs.Laws.{Spells-unique}
-use Rattle.pc_partial.specs.Retyping.{StepsOnSymbols, StepsOnSpan}
+use Rattle.pc_partial.specs.Retyping.{StepsOnSymbols}
 use Rattle.pc_session.specs.Finding.{FindsSymbols, unspelled}
 
 -- A text with a fault spells no list of symbols.
@@ -29,8 +29,3 @@ StepsOnSymbols-found text found tail before after spells bound = record {
       rw (same.0, length-map found plain_symbol) bound;
   unspelled = λ none. absurd (none (plain_symbols found) tail spells);
 }
-
--- No step is within every bound.
-pub StepsOnSpan-none : (span : Option Span) (text new : List ℕ) (before : ℕ) → StepsOnSpan span text new before before
-StepsOnSpan-none None text new before = refl
-StepsOnSpan-none (Some span) text new before = record { spelled = λ symbols tail spells. omega arith; unspelled = λ none. refl }

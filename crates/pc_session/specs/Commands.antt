@@ -9,13 +9,12 @@ use Rattle.pc_command.specs.declared.command.ViewName.{ViewName}
 use Rattle.pc_command.specs.declared.command.ViewName.TheVariants.{Syntax, Nodes}
 use Rattle.pc_session.specs.declared.accepted.Accepted.{Accepted}
 use Rattle.pc_session.specs.declared.made.Made.{Made}
-use Rattle.pc_session.specs.PlainSession.{PlainSession}
+use Rattle.pc_session.specs.PlainSession.{PlainSession, with_trees}
 use Rattle.pc_session.specs.Trees.{edited, Undoes}
 
--- An edit was accepted: it gives this program, it makes no step, and so many comments were dropped.
+-- An edit was accepted: it gives this program, and answers the count of steps and how many comments were dropped.
 pub record Accepts (s : PlainSession) (made : Made) (answer : Accepted) (t : PlainSession) : Type 0 where
-  pub trees : t.trees ≡ edited s.trees made.tree
-  pub count : t.count ≡ s.count
+  pub leaves : t ≡ with_trees s (edited s.trees made.tree)
   pub counted : answer.count ≡ t.count
   pub dropped : answer.dropped ≡ made.dropped
 
@@ -32,13 +31,13 @@ Edits makes s (Err refusal) t = makes s.trees.tree (Err refusal) × (t ≡ s)
 
 -- Undo: the last edit is undone, or there is none.
 abbrev pub IsUndone : PlainSession → Result ℕ Refusal → PlainSession → Type 0
-IsUndone s (Ok count) t = Undoes s.trees t.trees × (t.count ≡ s.count) × (count ≡ t.count)
+IsUndone s (Ok count) t = Undoes s.trees t.trees × (t ≡ with_trees s t.trees) × (count ≡ t.count)
 IsUndone s (Err NothingToUndo) t = (s.trees.earlier ≡ []) × (t ≡ s)
 IsUndone s (Err _) t = ⊥
 
 -- Redo: the edit that was undone last is made again, or there is none.
 abbrev pub IsRedone : PlainSession → Result ℕ Refusal → PlainSession → Type 0
-IsRedone s (Ok count) t = Undoes t.trees s.trees × (t.count ≡ s.count) × (count ≡ t.count)
+IsRedone s (Ok count) t = Undoes t.trees s.trees × (t ≡ with_trees s t.trees) × (count ≡ t.count)
 IsRedone s (Err NothingToRedo) t = (s.trees.undone ≡ []) × (t ≡ s)
 IsRedone s (Err _) t = ⊥
 

@@ -1,4 +1,5 @@
 pub mod Commands
+pub mod CommandsLaws
 pub mod Editing
 pub mod Finding
 pub mod Line

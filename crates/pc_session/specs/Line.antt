@@ -1,11 +1,12 @@
 -- The trees of a history in one line.
 use Rattle.std.specs.Prelude.{ℕ, ◌+◌, ◌-◌, ◌<◌, List, [], take, drop, length, slice_index_or, swap_remove}
+use Rattle.std.specs.List.{All}
 use Rattle.pc_syntax.specs.declared.kind.Kind.TheVariants.{Hole}
 use Rattle.pc_syntax.specs.declared.sort.Sort.TheVariants as sort
 use Rattle.pc_syntax.specs.Plain.{Plain, node}
 use Rattle.pc_session.specs.declared.history.Last.{Last}
 use Rattle.pc_session.specs.declared.history.Last.TheVariants.{Edited, Moved}
-use Rattle.pc_session.specs.Trees.{Trees, Histories}
+use Rattle.pc_session.specs.Trees.{IsProgram, Trees, Histories}
 
 -- the tree where a line has none
 unfoldable pub none : Plain
@@ -32,6 +33,11 @@ histories_of last line place = record { now = now_of last line place; before = b
 abbrev pub IsPlaced : Last → List Plain → ℕ → Type 0
 IsPlaced Edited line place = (0 < place) × (place < length line)
 IsPlaced (Moved from) line place = (from < length line) × (place < length line)
+
+-- the trees of the line are programs, and the places stand in it
+pub record IsLine (last : Last) (line : List Plain) (place : ℕ) : Type 0 where
+  pub placed : IsPlaced last line place
+  pub programs : All IsProgram line
 
 -- the line without what is only kept to take an edit back
 abbrev pub settled : Last → List Plain → ℕ → List Plain

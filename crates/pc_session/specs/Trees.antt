@@ -1,7 +1,13 @@
 -- The trees of a session: the one that it has, and those that undo and redo give.
 use Rattle.std.specs.Prelude.{◌≡◌, Bool, true, false, List, [], ◌∷◌, ◌++◌, refl}
 use Rattle.std.specs.Coded.{Coded, code_by, coded×, coded_list}
+use Rattle.pc_syntax.specs.declared.class.Class.TheVariants as class
 use Rattle.pc_syntax.specs.Plain.{Plain, plain_code}
+use Rattle.pc_syntax.specs.Classes.{has}
+
+-- A tree of the sort program. Each tree of the code is well formed and within the limits besides.
+abbrev pub IsProgram : Plain → Type 0
+IsProgram p = has class.Program p.kind ≡ true
 
 -- The trees that undo gives, the latest last; the session's own; and those that redo gives, the next to come first.
 pub record Trees : Type 0 where

@@ -2,7 +2,7 @@
 
 ghost use Rattle.std.specs.Prelude.{◌≡◌, ◌<◌, [], ◌∷◌, length, IfOk, MatchResult};
 ghost use Rattle.pc_syntax.specs.Plain.{Plain};
-ghost use Rattle.pc_session.specs.Trees.{edited, GoesBack, GoesOn};
+ghost use Rattle.pc_session.specs.Trees.{IsProgram, edited, GoesBack, GoesOn};
 ghost use Rattle.pc_session.specs.Line.{settled, IsPlaced};
 
 use pc_syntax::Tree;
@@ -33,16 +33,17 @@ impl Model for History {
 
     ghost coded = { histories_code };
 
-    ghost use Rattle.pc_session.specs.Line.{histories_of, IsPlaced};
+    ghost use Rattle.pc_session.specs.Line.{histories_of, IsLine};
 
     ghost view = { λ h. histories_of h.last h.line.items h.place };
 
-    ghost invariant = { λ h. IsPlaced h.last h.line.items h.place };
+    ghost invariant = { λ h. IsLine h.last h.line.items h.place };
 }
 
 impl History {
     /// The history that begins with this tree.
     pub fn new(alloc: Global, tree: Tree) -> Result<History, AllocError>
+        requires program { IsProgram tree }
         ensures now { IfOk result (λ history. history.now ≡ record { earlier = []; tree = tree; undone = [] }) }
         ensures before { IfOk result (λ history. history.before ≡ history.now) }
     {
@@ -55,15 +56,17 @@ impl History {
         })
     }
 
-    /// The tree now.
+    /// The tree now, which is a program.
     pub fn tree(&self) -> &Tree
-        ensures { result.now ≡ self.now.now.tree }
+        ensures now { result.now ≡ self.now.now.tree }
+        ensures program { IsProgram result.now }
     {
         &self.line[self.place]
     }
 
-    /// An edit that gives this tree. Only memory can fail.
+    /// An edit that gives this program. Only memory can fail.
     pub fn edit(&mut self, tree: Tree) -> Result<(), AllocError>
+        requires program { IsProgram tree }
         ensures now { MatchResult result (λ _. self.new.now ≡ edited self.old.now tree) (λ _. self.new.now ≡ self.old.now) }
         ensures before { self.new.before ≡ self.old.now }
     {

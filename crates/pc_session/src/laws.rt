@@ -2,6 +2,7 @@
 
 ghost use Rattle.pc_session.specs.LoadingLaws.{OneWritten, OneDropped, OneFault, WrittenFits, WrittenIsFaultless, MisfitIsFaultless};
 ghost use Rattle.pc_session.specs.TreesLaws.{OneUndo, OneRedo};
+ghost use Rattle.pc_session.specs.CommandsLaws.{OneLoad, OnePut, OneAdd, OneFill, OneRetype, OneCut, OneUndone, OneRedone, OneShown};
 
 /// The three answers to a text that is read as a tree of a class exclude each other: it has such a tree, or it is a misfit, or
 /// it spells no symbols. A text has at most one such tree, one number of comments that the tree doesn't keep, and one first fault.
@@ -18,4 +19,49 @@ pub fn one_answer()
 pub fn undo_and_redo()
     ensures undo { OneUndo }
     ensures redo { OneRedo }
+{}
+
+/// What is answered to a `load` is determined, want of memory aside, and so is the session that it leaves.
+pub fn one_load()
+    ensures { OneLoad }
+{}
+
+/// What is answered to a `put` is determined, want of memory aside, and so is the session that it leaves.
+pub fn one_put()
+    ensures { OnePut }
+{}
+
+/// What is answered to an `add` is determined, want of memory aside, and so is the session that it leaves.
+pub fn one_add()
+    ensures { OneAdd }
+{}
+
+/// What is answered to a `fill` is determined, want of memory aside, and so is the session that it leaves.
+pub fn one_fill()
+    ensures { OneFill }
+{}
+
+/// What is answered to a `retype` is determined, want of memory aside, and so is the session that it leaves.
+pub fn one_retype()
+    ensures { OneRetype }
+{}
+
+/// What is answered to a `cut` is determined, want of memory aside, and so is the session that it leaves.
+pub fn one_cut()
+    ensures { OneCut }
+{}
+
+/// What is answered to an `undo` is determined, want of memory aside, and so is the session that it leaves.
+pub fn one_undo()
+    ensures { OneUndone }
+{}
+
+/// What is answered to a `redo` is determined, want of memory aside, and so is the session that it leaves.
+pub fn one_redo()
+    ensures { OneRedone }
+{}
+
+/// What is answered to a `show` is determined, want of memory aside.
+pub fn one_show()
+    ensures { OneShown }
 {}

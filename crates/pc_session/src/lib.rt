@@ -19,5 +19,8 @@ mod tests;
 mod text_tests;
 
 pub use accepted::Accepted;
-pub use laws::{one_answer, undo_and_redo};
+pub use laws::{
+    one_add, one_answer, one_cut, one_fill, one_load, one_put, one_redo, one_retype, one_show,
+    one_undo, undo_and_redo,
+};
 pub use session::Session;

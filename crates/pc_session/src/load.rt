@@ -2,7 +2,7 @@
 
 ghost use Rattle.std.specs.Prelude.{◌≡◌};
 ghost use Rattle.pc_syntax.specs.Plain.{Plain};
-ghost use Rattle.pc_partial.specs.Retyping.{StepsOnSymbols, StepsOnRange};
+ghost use Rattle.pc_partial.specs.Retyping.{StepsOnSymbols};
 ghost use Rattle.pc_session.specs.Editing.{Writes, Retypes};
 ghost use Rattle.pc_session.specs.Finding.{FindsSymbols, misread, unretyped, unspelled};
 
@@ -43,8 +43,7 @@ pub fn with_range<L: Ledger>(
     new: &[u8],
     work: &mut Steps<L>,
 ) -> Result<Made, Refusal>
-    ensures made { Retypes range.now new.now tree.now result }
-    ensures work { StepsOnRange tree.now range.now new.now work.old work.new }
+    ensures { Retypes range.now new.now tree.now result }
 {
     let Ok(text) = pretty(alloc, tree) else {
         return Err(Refusal::NoMemory);

@@ -4,9 +4,8 @@ ghost use Rattle.std.specs.Prelude.{◌≡◌, Err, IfOk};
 ghost use Rattle.pc_syntax.specs.Plain.{Plain};
 ghost use Rattle.pc_session.specs.Commands.{IsEdited, Edits, IsUndone, IsRedone, shown};
 ghost use Rattle.pc_session.specs.Editing.{Writes, Retypes, Puts, Adds, Fills, Cuts};
-ghost use Rattle.pc_partial.specs.Retyping.{StepsOnSymbols, StepsOnRange};
 ghost use Rattle.pc_session.specs.PlainSession.{opening};
-ghost use Rattle.pc_session.specs.Trees.{Trees, edited};
+ghost use Rattle.pc_session.specs.Trees.{IsProgram, Trees, edited};
 
 use crate::accepted::Accepted;
 use crate::editing::{with_added_template, with_template, with_text, without_node};
@@ -27,6 +26,7 @@ use std::sync::ledger::Ledger;
 pub struct Session {
     history: History,
     count: u64,
+    count_before: u64,
 }
 
 impl Model for Session {
@@ -36,7 +36,7 @@ impl Model for Session {
 
     ghost coded = { sessions_code };
 
-    ghost view = { λ s. sessions_of s.history s.count };
+    ghost view = { λ s. sessions_of s.history s.count s.count_before };
 }
 
 impl Session {
@@ -47,7 +47,11 @@ impl Session {
     {
         let tree = hole(alloc, Sort::Program)?;
         let history = History::new(alloc, tree)?;
-        Ok(Session { history, count: 0 })
+        Ok(Session {
+            history,
+            count: 0,
+            count_before: 0,
+        })
     }
 
     /// How many steps it has made.
@@ -57,9 +61,10 @@ impl Session {
         self.count
     }
 
-    /// Its program.
+    /// Its program. As every tree it is well formed and within the limits, and each tree that undo and redo give is a program too.
     pub fn tree(&self) -> &Tree
-        ensures { result.now ≡ self.now.now.trees.tree }
+        ensures now { result.now ≡ self.now.now.trees.tree }
+        ensures program { IsProgram result.now }
     {
         self.history.tree()
     }
@@ -75,7 +80,6 @@ impl Session {
     ) -> Result<Accepted, Refusal>
         ensures now { Edits (Writes text.now) self.old.now result self.new.now }
         ensures before { self.new.before ≡ self.old.now }
-        ensures work { StepsOnSymbols text.now work.old work.new }
     {
         match program_of(alloc, text, work) {
             Ok(made) => self.edit(made),
@@ -95,7 +99,6 @@ impl Session {
     ) -> Result<Accepted, Refusal>
         ensures now { Edits (Puts path.now template.now) self.old.now result self.new.now }
         ensures before { self.new.before ≡ self.old.now }
-        ensures work { work.new ≡ work.old }
     {
         let _ = &work;
         match with_template(alloc, self.tree(), path, template) {
@@ -116,7 +119,6 @@ impl Session {
     ) -> Result<Accepted, Refusal>
         ensures now { Edits (Adds path.now k template.now) self.old.now result self.new.now }
         ensures before { self.new.before ≡ self.old.now }
-        ensures work { work.new ≡ work.old }
     {
         let _ = &work;
         match with_added_template(alloc, self.tree(), path, k, template) {
@@ -139,7 +141,6 @@ impl Session {
     ) -> Result<Accepted, Refusal>
         ensures now { Edits (Fills path.now text.now) self.old.now result self.new.now }
         ensures before { self.new.before ≡ self.old.now }
-        ensures work { StepsOnSymbols text.now work.old work.new }
     {
         match with_text(alloc, self.tree(), path, text, work) {
             Ok(made) => self.edit(made),
@@ -159,7 +160,6 @@ impl Session {
     ) -> Result<Accepted, Refusal>
         ensures now { Edits (Retypes range.now text.now) self.old.now result self.new.now }
         ensures before { self.new.before ≡ self.old.now }
-        ensures work { StepsOnRange self.old.now.trees.tree range.now text.now work.old work.new }
     {
         match with_range(alloc, self.tree(), range, text, work) {
             Ok(made) => self.edit(made),
@@ -177,7 +177,6 @@ impl Session {
     ) -> Result<Accepted, Refusal>
         ensures now { Edits (Cuts path.now) self.old.now result self.new.now }
         ensures before { self.new.before ≡ self.old.now }
-        ensures work { work.new ≡ work.old }
     {
         let _ = &work;
         match without_node(alloc, self.tree(), path) {
@@ -191,9 +190,9 @@ impl Session {
         ensures now { IsUndone self.old.now result self.new.now }
         ensures before { self.new.before ≡ self.old.now }
         ensures gives_back { (s : Trees) (t : Plain) → self.old.now.trees ≡ edited s t → (self.new.now.trees.tree ≡ s.tree) × (self.new.now.trees.earlier ≡ s.earlier) }
-        ensures work { work.new ≡ work.old }
     {
         let _ = &work;
+        self.count_before = self.count;
         if self.history.undo() {
             Ok(self.count)
         } else {
@@ -206,9 +205,9 @@ impl Session {
     pub fn redo<L: Ledger>(&mut self, work: &mut Steps<L>) -> Result<u64, Refusal>
         ensures now { IsRedone self.old.now result self.new.now }
         ensures before { self.new.before ≡ self.old.now }
-        ensures work { work.new ≡ work.old }
     {
         let _ = &work;
+        self.count_before = self.count;
         if self.history.redo() {
             Ok(self.count)
         } else {
@@ -225,7 +224,6 @@ impl Session {
     ) -> Result<Vec<u8>, AllocError>
         ensures text { IfOk result (λ text. text.items ≡ shown name.now self.old.now) }
         ensures same { self.new ≡ self.old }
-        ensures work { work.new ≡ work.old }
     {
         let _ = &work;
         match name {
@@ -240,6 +238,7 @@ impl Session {
         ensures before { self.new.before ≡ self.old.before }
     {
         self.history.revert();
+        self.count = self.count_before;
     }
 
     /// Forgets what was before, so that `revert` takes nothing back. It takes no memory.
@@ -248,6 +247,7 @@ impl Session {
         ensures before { self.new.before ≡ self.old.now }
     {
         self.history.settle();
+        self.count_before = self.count;
     }
 
     // An edit that is refused so.
@@ -260,11 +260,13 @@ impl Session {
         Err(refusal)
     }
 
-    // An edit that makes this.
+    // An edit that makes this program.
     fn edit(&mut self, made: Made) -> Result<Accepted, Refusal>
+        requires { IsProgram made.tree }
         ensures now { IsEdited self.old.now made result self.new.now }
         ensures before { self.new.before ≡ self.old.now }
     {
+        self.count_before = self.count;
         if self.history.edit(made.tree).is_err() {
             return Err(Refusal::NoMemory);
         }

@@ -1,8 +1,8 @@
 use Rattle.pc_session.proofs.RangeSteps.{Retypes-read, Retypes-refused}
 use Rattle.pc_session.proofs.load.with_range.Goals as goal
 
-pub returns-in-Ok-retype-clause-made : goal.returns-in-Ok-retype-clause-made
-returns-in-Ok-retype-clause-made g c = Retypes-read c.args.tree.now c.args.range.now c.args.new.now c.in-Ok-retype.reading c.in-Ok-retype.ensures.read
+pub returns-in-Ok-retype : goal.returns-in-Ok-retype
+returns-in-Ok-retype g c = Retypes-read c.args.tree.now c.args.range.now c.args.new.now c.in-Ok-retype.reading c.in-Ok-retype.ensures.read
 
-pub returns-clause-made : goal.returns-clause-made
-returns-clause-made g c = rw c.unretyped.ensures (Retypes-refused c.args.tree.now c.args.range.now c.args.new.now c.in-Err.error c.in-Err.ensures.read)
+pub returns : goal.returns
+returns g c = rw c.unretyped.ensures (Retypes-refused c.args.tree.now c.args.range.now c.args.new.now c.in-Err.error c.in-Err.ensures.read)
