@@ -1,5 +1,5 @@
 -- The word of a node with an operator is the spelling of the operator that it is read as.
-use Rattle.std.proofs.Common.{◌≡◌, ℕ, Bool, true, false, ◌||◌, if◌then◌else◌, List, [], ◌∷◌, refl}
+use Rattle.std.proofs.Common.{◌≡◌, ℕ, Bool, true, false, ◌||◌, if◌then◌else◌, List, refl}
 use Rattle.std.proofs.lemmas.Slice.Eq.{bytes_eq-Decides}
 use Rattle.pc_syntax.specs.declared.kind.Kind.TheVariants.{For, Mul, Add, Sign, Rel}
 use Rattle.pc_syntax.specs.declared.lexeme.Lexeme.{Lexeme}
