@@ -1,5 +1,5 @@
 -- A printed tree reads back as the same tree.
-use Rattle.std.specs.Prelude.{◌≡◌, ℕ, List, [], Some, Result}
+use Rattle.std.specs.Prelude.{◌≡◌, List, [], Some, Result}
 use Rattle.pc_syntax.specs.declared.sort.Sort.{Sort}
 use Rattle.pc_syntax.specs.Plain.{Plain}
 use Rattle.pc_syntax.specs.Sorts.{sort_of}
