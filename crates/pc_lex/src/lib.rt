@@ -17,8 +17,6 @@ mod name;
 mod numeral;
 mod quoted;
 mod symbol;
-#[cfg(test)]
-mod tests;
 
 pub use error::LexError;
 pub use front::Front;

@@ -12,14 +12,10 @@ mod laws;
 mod leaves;
 mod lexemes;
 mod machine;
-#[cfg(test)]
-mod note_tests;
 mod notes;
 mod quiet;
 mod reading;
 mod rows;
-#[cfg(test)]
-mod tests;
 mod turns;
 
 pub use error::ParseError;

@@ -11,11 +11,7 @@ mod range;
 mod round_trip;
 mod spacing;
 mod spans;
-#[cfg(test)]
-mod tests;
 mod text;
-#[cfg(test)]
-mod text_tests;
 
 pub use printing::print;
 pub use range::Range;

@@ -20,30 +20,3 @@ pub fn element_number(word: &[u8]) -> Option<u32>
         None => None,
     }
 }
-
-#[cfg(test)]
-mod tests {
-    use super::*;
-
-    #[test]
-    fn a_number_is_a_row_of_digits(rt: HostRuntime) {
-        let cases: [(&[u8], Option<u32>); 13] = [
-            (b"1", Some(1)),
-            (b"10", Some(10)),
-            (b"0007", Some(7)),
-            (b"4294967295", Some(4_294_967_295)),
-            (b"", None),
-            (b"0", None),
-            (b"000", None),
-            (b"4294967296", None),
-            (b"340282366920938463463374607431768211457", None),
-            (b"-1", None),
-            (b"+1", None),
-            (b"1x", None),
-            (b"/1", None),
-        ];
-        for (word, number) in cases {
-            assert!(rt; element_number(word) == number, "{word:?}");
-        }
-    }
-}

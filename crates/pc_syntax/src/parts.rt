@@ -46,13 +46,3 @@ fn cut(alloc: Global, mark: u8, bytes: &[u8]) -> Result<Vec<&[u8]>, AllocError>
 {
     bytes.split(|byte| *byte == mark).collect(alloc)
 }
-
-/// A word of so many equal parts.
-#[cfg(test)]
-pub fn repeated(alloc: Global, part: &[u8], count: usize) -> Result<Vec<u8>, AllocError> {
-    let mut word = Vec::new(alloc);
-    for _i in 0..count {
-        word.extend_from_slice(part)?;
-    }
-    Ok(word)
-}

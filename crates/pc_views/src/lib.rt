@@ -4,8 +4,6 @@
 #![tactic(auto)]
 
 mod limit;
-#[cfg(test)]
-mod tests;
 mod tree;
 
 pub use tree::tree_view;

@@ -1,4 +1,0 @@
-use Rattle.pc_parse.proofs.tests.a_procedure_or_a_function_is_read_as_its_tree.Given as goal
-
-abbrev pub ghosts-measure : goal.ghosts-measure
-ghosts-measure g a = record { name = a.blank.name; parts = a.blank.parts }
