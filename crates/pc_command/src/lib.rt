@@ -13,8 +13,6 @@ mod laws;
 mod range;
 mod reading;
 mod refusal;
-#[cfg(test)]
-mod tests;
 mod view_word;
 mod words;
 

@@ -5,8 +5,6 @@
 
 mod error;
 mod retyping;
-#[cfg(test)]
-mod tests;
 
 pub use error::RetypeError;
 pub use retyping::retype;

@@ -9,8 +9,6 @@ mod command;
 mod given;
 mod intake;
 mod lines;
-#[cfg(test)]
-mod tests;
 
 pub use ahead::{Next, Stop};
 pub use command::next_command;

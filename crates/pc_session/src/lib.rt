@@ -13,10 +13,6 @@ mod load;
 mod made;
 mod measuring;
 mod session;
-#[cfg(test)]
-mod tests;
-#[cfg(test)]
-mod text_tests;
 
 pub use accepted::Accepted;
 pub use laws::{

@@ -17,8 +17,6 @@ mod shelf;
 mod sink;
 mod source;
 mod standard;
-#[cfg(test)]
-mod tests;
 
 pub use memory_shelf::MemShelf;
 pub use memory_sink::MemSink;
