@@ -10,7 +10,7 @@ use Rattle.std.proofs.KnownBytes.{Consumes-nil, Consumes-kept}
 use Rattle.pc_script.specs.Ahead.{Ahead, or_more, Takes, IsSame}
 use Rattle.pc_script.specs.Reading.{Reading, MayCome, Took, Fails}
 use Rattle.pc_script.proofs.ReadingSteps.{Took-none}
-use Rattle.pc_script.specs.Script.{units, within}
+use Rattle.pc_script.specs.Script.{unit_length, units, within}
 use Rattle.pc_script.specs.Intake.{part_of, bytes_after}
 use Rattle.pc_script.specs.declared.ahead.Next.TheVariants.{Item, End, TooMany}
 
@@ -27,7 +27,7 @@ lt-onto_first : (l b : ℕ) (us : List (List ℕ)) → ltb (suc l) (length us) �
 lt-onto_first l b [] = grind (arith, nat_tests)
 lt-onto_first l b (u ∷ us) = refl
 
-ends_unit : (l room b : ℕ) (bs : List ℕ) → (eqb b 10 || leb room 1) ≡ true → Heads (within (suc l) room (b ∷ bs)) b (within l 1000000 bs)
+ends_unit : (l room b : ℕ) (bs : List ℕ) → (eqb b 10 || leb room 1) ≡ true → Heads (within (suc l) room (b ∷ bs)) b (within l unit_length bs)
 unfolding within units
 ends_unit l room b bs e = rw e (record { items = refl; further = grind (arith, nat_tests) })
 
@@ -35,10 +35,10 @@ in_unit : (l room b : ℕ) (bs : List ℕ) → (eqb b 10 || leb room 1) ≡ fals
 unfolding within units
 in_unit l room b bs e = rw e (record { items = concat-onto_first l b _; further = lt-onto_first l b _ })
 
-pub within-ends_unit : (left room b : ℕ) (bs : List ℕ) → 0 < left → (eqb b 10 || leb room 1) ≡ true → Heads (within left room (b ∷ bs)) b (within (left - 1) 1000000 bs)
+pub within-ends_unit : (left room b : ℕ) (bs : List ℕ) → 0 < left → (eqb b 10 || leb room 1) ≡ true → Heads (within left room (b ∷ bs)) b (within (left - 1) unit_length bs)
 within-ends_unit left room b bs some e =
     let is : left ≡ suc (left - 1) = omega arith in
-    let P : ℕ → Type 0 = λ n. Heads (within n room (b ∷ bs)) b (within (left - 1) 1000000 bs) in
+    let P : ℕ → Type 0 = λ n. Heads (within n room (b ∷ bs)) b (within (left - 1) unit_length bs) in
     subst P (sym is) (ends_unit (left - 1) room b bs e)
 
 pub within-in_unit : (left room b : ℕ) (bs : List ℕ) → 0 < left → (eqb b 10 || leb room 1) ≡ false → Heads (within left room (b ∷ bs)) b (within left (room - 1) bs)
@@ -57,7 +57,7 @@ length-onto_first b (u ∷ us) = omega arith
 
 some_unit : (room b : ℕ) (bs : List ℕ) → 0 < length (units room (b ∷ bs))
 unfolding units
-some_unit room b bs = elim (eqb b 10 || leb room 1) as (λ t. 0 < length (if t then (b ∷ []) ∷ units 1000000 bs else onto_first b (units (room - 1) bs))) [ true ↦ omega arith | false ↦ length-onto_first b _ ]
+some_unit room b bs = elim (eqb b 10 || leb room 1) as (λ t. 0 < length (if t then (b ∷ []) ∷ units unit_length bs else onto_first b (units (room - 1) bs))) [ true ↦ omega arith | false ↦ length-onto_first b _ ]
 
 within-zero : (room b : ℕ) (bs : List ℕ) → ((within 0 room (b ∷ bs)).items ≡ []) × ((within 0 room (b ∷ bs)).further ≡ true)
 unfolding within

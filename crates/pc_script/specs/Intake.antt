@@ -2,7 +2,7 @@
 use Rattle.std.specs.Prelude.{◌≡◌, ℕ, ◌+◌, ◌-◌, ◌*◌, ◌<◌, ◌≤◌, Bool, true, List, ◌++◌, take, drop, Option, ⊤}
 use Rattle.pc_script.specs.Ahead.{Ahead, or_more}
 use Rattle.pc_script.specs.Reading.{Reading, over}
-use Rattle.pc_script.specs.Script.{within, lines_ahead, commands_ahead, Between}
+use Rattle.pc_script.specs.Script.{unit_length, within, lines_ahead, commands_ahead, Between}
 use Rattle.pc_script.specs.declared.given.Given.{Given}
 use Rattle.pc_script.specs.declared.intake.Intake.{Intake}
 use Rattle.pc_script.specs.declared.ahead.Next.{Next}
@@ -40,7 +40,7 @@ commands_of i left = record { left = left; ended = has_ended i; ahead = commands
 
 -- How many bytes may be taken at most.
 unfoldable pub allowance : Intake → ℕ
-allowance i = i.left * 1000000 + i.room
+allowance i = i.left * unit_length + i.room
 
 -- An item lowers the number, and nothing raises it.
 abbrev pub LowersAt : {X : Type 0} → ℕ → ℕ → Next X → Type 0

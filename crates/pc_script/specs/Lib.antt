@@ -3,3 +3,4 @@ pub mod Causes
 pub mod Intake
 pub mod Reading
 pub mod Script
+pub mod ScriptLaws

@@ -15,14 +15,30 @@ use Rattle.pc_script.specs.declared.given.Given.{Given}
 abbrev pub shortened : List ℕ → List ℕ
 shortened bytes = take (line_limit + 1) bytes
 
--- A unit ends at a line feed, or when it has no room for more. It has room for 1,000,000 bytes.
+-- The most units of a script.
+unfoldable pub unit_limit : ℕ
+unit_limit = 10000000
+
+pub unit_limit-is : unit_limit ≡ 10000000
+unfolding unit_limit
+unit_limit-is = refl
+
+-- The most bytes of a unit.
+unfoldable pub unit_length : ℕ
+unit_length = 1000000
+
+pub unit_length-is : unit_length ≡ 1000000
+unfolding unit_length
+unit_length-is = refl
+
+-- A unit ends at a line feed, or when it has no room for more.
 unfoldable pub units : ℕ → List ℕ → List (List ℕ)
 units room [] = []
-units room (b ∷ bs) = if b == 10 || nat_le room 1 then (b ∷ []) ∷ units 1000000 bs else onto_first b (units (room - 1) bs)
+units room (b ∷ bs) = if b == 10 || nat_le room 1 then (b ∷ []) ∷ units unit_length bs else onto_first b (units (room - 1) bs)
 
 -- How many units a script has.
 abbrev pub unit_count : List ℕ → ℕ
-unit_count bytes = length (units 1000000 bytes)
+unit_count bytes = length (units unit_length bytes)
 
 -- The bytes of so many units, where the first has room for so many bytes, and whether there are more units.
 unfoldable pub within : ℕ → ℕ → List ℕ → Ahead ℕ
@@ -71,20 +87,15 @@ command_with line (Item text) = Item (record { line = line; here = Some text })
 command_with line End = Item (record { line = line; here = None })
 command_with line TooMany = TooMany
 
--- The commands of the first 10,000,000 units of some bytes, and whether there are more. Where more bytes may come after
+-- The commands of the first units of some bytes, as many as a script may have, and whether there are more. Where more bytes may come after
 -- these, a last line without its line feed is no line yet, and a text that isn't ended is no part of a command yet.
 unfoldable pub commands_in : List ℕ → Bool → Ahead Given
-commands_in bytes more = commands_ahead Between (lines_ahead (or_more more (within 10000000 1000000 bytes)))
+commands_in bytes more = commands_ahead Between (lines_ahead (or_more more (within unit_limit unit_length bytes)))
 
--- A script: the commands of its first 10,000,000 units, and whether it goes on after them.
+-- A script: the commands of its first units, as many as it may have, and whether it goes on after them.
 abbrev pub script : List ℕ → Ahead Given
 script bytes = commands_in bytes false
 
 -- The commands that stand whole, with all their line ends, in some bytes.
 abbrev pub whole_commands : List ℕ → List Given
 whole_commands bytes = (commands_in bytes true).items
-
--- A script goes on after its first units exactly where it has more than 10,000,000.
-pub script-further : (bytes : List ℕ) → (script bytes).further ≡ nat_lt 10000000 (unit_count bytes)
-unfolding commands_in commands_ahead lines_ahead within
-script-further bytes = refl

@@ -3,16 +3,28 @@ ghost use Rattle.std.specs.Prelude.{true, false, List, ℕ, Bool, ◌≡◌, ◌
 ghost use Rattle.pc_script.specs.Causes.{StopHasCause};
 ghost use Rattle.pc_script.specs.Ahead.{Takes, IsSame};
 ghost use Rattle.pc_script.specs.Reading.{Took, Fails};
+ghost use Rattle.pc_script.specs.Script.{unit_limit, unit_length};
 
 use crate::ahead::{Next, Stop};
 use pc_world::Source;
 use std::alloc::{AllocError, Global};
 
-/// How many units of a script may be taken.
-pub const MOST_UNITS: u64 = 10_000_000;
+/// The most units of a script that may be taken: 10,000,000.
+#[tactic(auto, unfolding(crate::specs::Script::unit_limit))]
+pub fn unit_limit() -> u64
+    ensures { result ≡ unit_limit }
+{
+    10_000_000
+}
 
-/// A unit ends at a line feed, or after so many bytes.
-pub const UNIT_LEN: u64 = 1_000_000;
+/// The most bytes of a unit, which ends sooner at a line feed: 1,000,000.
+#[tactic(auto, unfolding(crate::specs::Script::unit_length))]
+pub fn unit_length() -> u64
+    ensures value { result ≡ unit_length }
+    ensures some { 0 < result }
+{
+    1_000_000
+}
 
 const CHUNK: usize = 65_536;
 
@@ -31,8 +43,8 @@ pub struct Intake {
     ghost in_buffer: { end ≤ vec_len buffer },
     ghost some_buffer: { 0 < vec_len buffer },
     ghost some_room: { 0 < room },
-    ghost few_units: { left ≤ 10000000 },
-    ghost unit_room: { room ≤ 1000000 },
+    ghost few_units: { left ≤ unit_limit },
+    ghost unit_room: { room ≤ unit_length },
 }
 
 impl Intake {
@@ -44,13 +56,15 @@ impl Intake {
         ensures fresh { IfOk result (λ intake. (rest : List ℕ) (more : Bool) → commands_to_come intake rest more ≡ commands_in rest more) }
         ensures unended { IfOk result (λ intake. has_ended intake ≡ false) }
     {
+        let left = unit_limit();
+        let room = unit_length();
         Ok(Intake {
             buffer: vec![in alloc; 0; CHUNK]?,
             start: 0,
             end: 0,
             ended: false,
-            left: MOST_UNITS,
-            room: UNIT_LEN,
+            left,
+            room,
         })
     }
 
@@ -99,7 +113,7 @@ impl Intake {
         self.start += 1;
         if byte == b'\n' || self.room == 1 {
             self.left -= 1;
-            self.room = UNIT_LEN;
+            self.room = unit_length();
         } else {
             self.room -= 1;
         }

@@ -13,4 +13,4 @@ mod lines;
 pub use ahead::{Next, Stop};
 pub use command::next_command;
 pub use given::Given;
-pub use intake::{Intake, MOST_UNITS, UNIT_LEN};
+pub use intake::{Intake, unit_length, unit_limit};

@@ -1,3 +1,5 @@
 pub mod FillSteps
+pub mod OneReply
 pub mod ReplySteps
 pub mod RunSteps
+pub mod WordSteps

@@ -4,19 +4,20 @@ use Rattle.std.proofs.lemmas.List.{append-nil, take-append-le}
 use Rattle.std.proofs.lemmas.Bool.{ltb-true, ltb-false}
 use Rattle.std.proofs.KnownBytes.{Consumes-trans}
 use Rattle.std.proofs.Math.Seq.{take-append-add, take-append_seam}
-use Rattle.std.specs.List.{concat}
 use Rattle.std.specs.Option.{IfSome}
 use Rattle.std.specs.Io.KnownBytes.{Appends, Consumes}
 use Rattle.pc_world.specs.Appended.{Appends-none, Appends-more}
 use Rattle.pc_world.specs.Files.{Files}
 use Rattle.pc_script.specs.Ahead.{Ahead, Takes}
-use Rattle.pc_script.specs.Script.{script-further, commands_in, unit_count}
+use Rattle.pc_script.specs.Script.{commands_in, unit_limit, unit_count}
+use Rattle.pc_script.specs.ScriptLaws.{script-further}
 use Rattle.pc_script.specs.Reading.{Reading, Took, Took-more, Fails, IsMet, MayCome-left}
 use Rattle.pc_script.specs.declared.given.Given.{Given}
 use Rattle.pc_script.specs.declared.ahead.Next.TheVariants.{Item, End, TooMany}
 use Rattle.pc_transcript.specs.State.{State}
 use Rattle.pc_transcript.specs.Obeying.{Answers, Answers-no_memory, no_memory}
-use Rattle.pc_transcript.specs.Transcript.{Replies, WritesTranscript, WritesFront, WritesReplies, WritesPart, WritesAnswer, Went}
+use Rattle.pc_transcript.specs.Transcript.{written_of, Replies, WritesTranscript, WritesFront, WritesReplies, WritesPart, WritesAnswer, Went}
+use Rattle.pc_transcript.specs.declared.piece.Piece.{Piece}
 use Rattle.pc_transcript.specs.declared.status.Status.{Status}
 use Rattle.pc_transcript.specs.declared.status.Status.TheVariants.{Done, TooManyLines}
 
@@ -26,15 +27,15 @@ Replies-nil : (s : State) → Replies s [] [] s
 unfolding Replies
 Replies-nil s = refl
 
-Replies-first : (s : State) (given : Given) (piece : List ℕ) (m : State) (more : List Given) (pieces : List (List ℕ)) (t : State) →
+Replies-first : (s : State) (given : Given) (piece : Piece) (m : State) (more : List Given) (pieces : List Piece) (t : State) →
     Answers s given piece m → Replies m more pieces t → Replies s (given ∷ more) (piece ∷ pieces) t
 unfolding Replies
 Replies-first s given piece m more pieces t answers replies = (m, answers, replies)
 
-Replies-one : (s : State) (given : Given) (piece : List ℕ) (t : State) → Answers s given piece t → Replies s (given ∷ []) (piece ∷ []) t
+Replies-one : (s : State) (given : Given) (piece : Piece) (t : State) → Answers s given piece t → Replies s (given ∷ []) (piece ∷ []) t
 Replies-one s given piece t answers = Replies-first s given piece t [] [] t answers (Replies-nil t)
 
-Replies-more : (s : State) (first : List Given) (pieces : List (List ℕ)) (m : State) (second : List Given) (more : List (List ℕ)) (t : State) →
+Replies-more : (s : State) (first : List Given) (pieces : List Piece) (m : State) (second : List Given) (more : List Piece) (t : State) →
     Replies s first pieces m → Replies m second more t → Replies s (first ++ second) (pieces ++ more) t
 unfolding Replies
 Replies-more s [] [] m second more t r q = let P : State → Type 0 = λ x. Replies x second more t in subst P r q
@@ -48,17 +49,26 @@ unfolding Replies
 Replies-exist s [] = refl
 Replies-exist s (given ∷ more) = (s, Answers-no_memory s given, Replies-exist s more)
 
-concat-more : (pieces more : List (List ℕ)) → concat (pieces ++ more) ≡ concat pieces ++ concat more
-concat-more [] more = refl
-concat-more (piece ∷ pieces) more = rw (concat-more pieces more, append_assoc) refl
+written_of-more : (pieces more : List Piece) → written_of (pieces ++ more) ≡ written_of pieces ++ written_of more
+unfolding written_of
+written_of-more [] more = refl
+written_of-more (piece ∷ pieces) more = rw (written_of-more pieces more, append_assoc) refl
+
+written_of-none : written_of [] ≡ []
+unfolding written_of
+written_of-none = refl
+
+written_of-cons : (piece : Piece) (more : List Piece) → written_of (piece ∷ more) ≡ piece.text ++ written_of more
+unfolding written_of
+written_of-cons piece more = refl
 
 -- How far a run came: these commands are done, and replies to them were written.
 pub record Progress (from : Reading Given) (s : State) (before : Option (List ℕ)) (to : Reading Given) (t : State) (now : Option (List ℕ)) : Type 0 where
   pub done : List Given
   pub took : Took from to (Went done)
-  pub pieces : List (List ℕ)
+  pub pieces : List Piece
   pub replies : Replies s done pieces t
-  pub written : Appends before now (concat pieces)
+  pub written : Appends before now (written_of pieces)
 
 Consumes-none : (left : Option (List ℕ)) → Consumes left left []
 Consumes-none None = tt
@@ -70,14 +80,15 @@ Progress-none from s before = record {
   took = record { taken = []; consumed = Consumes-none from.left; may = λ rest more may. may; met = λ met. met; step = λ rest more may. (refl, refl) };
   pieces = [];
   replies = Replies-nil s;
-  written = Appends-none before;
+  written = rw written_of-none (Appends-none before);
 }
 
 Went-more : (done : List Given) (given : Given) (a b c : Ahead Given) → Went done a b → Takes (Item given) b c → Went (done ++ given ∷ []) a c
 Went-more done given a b c went takes = (rw (went.0, takes.0, append_assoc) refl, takes.1 ∙ went.1)
 
-concat-one : (pieces : List (List ℕ)) (piece : List ℕ) → concat (pieces ++ piece ∷ []) ≡ concat pieces ++ piece
-concat-one pieces piece = concat-more pieces (piece ∷ []) ∙ rw (append-nil piece) refl
+written_of-one : (pieces : List Piece) (piece : Piece) → written_of (pieces ++ piece ∷ []) ≡ written_of pieces ++ piece.text
+unfolding written_of
+written_of-one pieces piece = written_of-more pieces (piece ∷ []) ∙ rw (append-nil piece.text) refl
 
 pub Progress-more : (from : Reading Given) (s : State) (before : Option (List ℕ)) (to : Reading Given) (t : State) (now : Option (List ℕ))
     (next : Reading Given) (given : Given) (u : State) (later : Option (List ℕ)) →
@@ -87,7 +98,7 @@ Progress-more from s before to t now next given u later p took answer = record {
   took = Took-more from to next (Went p.done) (Takes (Item given)) (Went (p.done ++ given ∷ [])) p.took took (Went-more p.done given);
   pieces = p.pieces ++ answer.piece ∷ [];
   replies = Replies-more s p.done p.pieces t (given ∷ []) (answer.piece ∷ []) u p.replies (Replies-one t given answer.piece u answer.answers);
-  written = rw (concat-one p.pieces answer.piece) (Appends-more before now later (concat p.pieces) answer.piece p.written answer.written);
+  written = rw (written_of-one p.pieces answer.piece) (Appends-more before now later (written_of p.pieces) answer.piece.text p.written answer.written);
 }
 
 -- What is told of the bytes that were left.
@@ -115,8 +126,8 @@ whole from to P bytes took unended told =
     (left.0, subst R (sym left.2) (took.step left.0 false (MayCome-left to left.0 (took.met met) left.1)))
 
 -- Replies to the first commands of a script are a front of a transcript's pieces.
-front_of : (script : Ahead Given) (s t : State) (done rest : List Given) (pieces : List (List ℕ)) (before now : Option (List ℕ)) →
-    script.items ≡ done ++ rest → Replies s done pieces t → Appends before now (concat pieces) → WritesFront script s before now
+front_of : (script : Ahead Given) (s t : State) (done rest : List Given) (pieces : List Piece) (before now : Option (List ℕ)) →
+    script.items ≡ done ++ rest → Replies s done pieces t → Appends before now (written_of pieces) → WritesFront script s before now
 front_of script s t done rest pieces before now is replies written =
     let more = map (λ _. no_memory) rest in
     record {
@@ -124,13 +135,13 @@ front_of script s t done rest pieces before now is replies written =
       last = t;
       status = if script.further then TooManyLines else Done;
       transcript = record { replies = rw is (Replies-more s done pieces t rest more t replies (Replies-exist t rest)); ends = refl };
-      count = length (concat pieces);
-      written = rw (concat-more pieces more, take-append_seam (concat pieces) (concat more)) written;
+      count = length (written_of pieces);
+      written = rw (written_of-more pieces more, take-append_seam (written_of pieces) (written_of more)) written;
     }
 
 -- The same, where of one more reply a part is written.
-front_with : (script : Ahead Given) (s t : State) (done : List Given) (given : Given) (rest : List Given) (pieces : List (List ℕ)) (before now later : Option (List ℕ)) →
-    script.items ≡ done ++ given ∷ rest → Replies s done pieces t → Appends before now (concat pieces) → WritesPart t given now later → WritesFront script s before later
+front_with : (script : Ahead Given) (s t : State) (done : List Given) (given : Given) (rest : List Given) (pieces : List Piece) (before now later : Option (List ℕ)) →
+    script.items ≡ done ++ given ∷ rest → Replies s done pieces t → Appends before now (written_of pieces) → WritesPart t given now later → WritesFront script s before later
 front_with script s t done given rest pieces before now later is replies written part =
     let more = map (λ _. no_memory) rest in
     let u = part.last in
@@ -143,18 +154,19 @@ front_with script s t done given rest pieces before now later is replies written
             (Replies-first t given part.piece u rest more u part.answers (Replies-exist u rest)));
         ends = refl;
       };
-      count = length (concat pieces) + part.count;
+      count = length (written_of pieces) + part.count;
       written = rw (
-        concat-more pieces (part.piece ∷ more),
-        take-append-add (concat pieces) (part.piece ++ concat more) part.count,
-        take-append-le part.count part.piece (concat more) part.within,
+        written_of-more pieces (part.piece ∷ more),
+        written_of-cons part.piece more,
+        take-append-add (written_of pieces) (part.piece.text ++ written_of more) part.count,
+        take-append-le part.count part.piece.text (written_of more) part.within,
       )
-          (Appends-more before now later (concat pieces) (take part.count part.piece) written part.written);
+          (Appends-more before now later (written_of pieces) (take part.count part.piece.text) written part.written);
     }
 
 -- Before any command is read nothing is written.
 pub WritesFront-none : (script : Ahead Given) (s : State) (before : Option (List ℕ)) → WritesFront script s before before
-WritesFront-none script s before = front_of script s s [] script.items [] before before refl (Replies-nil s) (Appends-none before)
+WritesFront-none script s before = front_of script s s [] script.items [] before before refl (Replies-nil s) (rw written_of-none (Appends-none before))
 
 -- A run that ended early has written a front of a transcript's pieces.
 pub Progress-front : (from : Reading Given) (s : State) (before : Option (List ℕ)) (to : Reading Given) (t : State) (now : Option (List ℕ)) →
@@ -234,14 +246,14 @@ ends-cut_off false e = cc
 
 pub few_units : (told : Option (List ℕ)) (ahead : List ℕ → Bool → Ahead Given) (s : State) (before now : Option (List ℕ)) (kept : Option Files) (status : Status) →
     ((bytes : List ℕ) (more : Bool) → ahead bytes more ≡ commands_in bytes more) → status ≡ Done →
-    IfSome told (λ bytes. WritesTranscript (ahead bytes false) s before now kept status) → IfSome told (λ bytes. unit_count bytes ≤ 10000000)
+    IfSome told (λ bytes. WritesTranscript (ahead bytes false) s before now kept status) → IfSome told (λ bytes. unit_count bytes ≤ unit_limit)
 few_units told ahead s before now kept status fresh is = IfSome-more told _ _ (λ bytes w.
     let ends = rw (is, fresh bytes false) at w.transcript.ends in
     ltb-false _ _ (sym (script-further bytes) ∙ ends-done _ ends))
 
 pub many_units : (told : Option (List ℕ)) (ahead : List ℕ → Bool → Ahead Given) (s : State) (before now : Option (List ℕ)) (kept : Option Files) (status : Status) →
     ((bytes : List ℕ) (more : Bool) → ahead bytes more ≡ commands_in bytes more) → status ≡ TooManyLines →
-    IfSome told (λ bytes. WritesTranscript (ahead bytes false) s before now kept status) → IfSome told (λ bytes. 10000000 < unit_count bytes)
+    IfSome told (λ bytes. WritesTranscript (ahead bytes false) s before now kept status) → IfSome told (λ bytes. unit_limit < unit_count bytes)
 many_units told ahead s before now kept status fresh is = IfSome-more told _ _ (λ bytes w.
     let ends = rw (is, fresh bytes false) at w.transcript.ends in
     ltb-true _ _ (sym (script-further bytes) ∙ ends-cut_off _ ends))

@@ -1,4 +1,6 @@
 pub mod Codes
 pub mod Obeying
+pub mod ReplyLaws
 pub mod State
 pub mod Transcript
+pub mod Words

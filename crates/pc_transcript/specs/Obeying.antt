@@ -1,5 +1,5 @@
 -- What a command does to a session, and what is answered to it.
-use Rattle.std.specs.Prelude.{◌≡◌, ℕ, List, [], ◌⊎◌, Option, Some, None, Result, Ok, Err, codes}
+use Rattle.std.specs.Prelude.{◌≡◌, ℕ, Bool, true, false, List, [], ◌++◌, ◌⊎◌, Option, Some, None, Result, Ok, Err, codes}
 use Rattle.std.proofs.Common.{inl, inr, refl}
 use Rattle.pc_script.specs.declared.given.Given.{Given}
 use Rattle.pc_command.specs.declared.command.Command.{Command}
@@ -12,10 +12,11 @@ use Rattle.pc_command.specs.declared.refusal.Refusal.TheVariants.{NoMemory}
 use Rattle.pc_command.specs.Lines.{reading}
 use Rattle.pc_command.specs.Replies.{reply_of}
 use Rattle.pc_session.specs.declared.accepted.Accepted.{Accepted}
-use Rattle.pc_session.specs.PlainSession.{PlainSession}
+use Rattle.pc_session.specs.PlainSession.{PlainSession, watched}
 use Rattle.pc_session.specs.Editing.{Writes, Retypes, Puts, Adds, Fills, Cuts}
 use Rattle.pc_session.specs.Commands.{Edits, IsUndone, IsRedone, shown}
 use Rattle.pc_transcript.specs.State.{State}
+use Rattle.pc_transcript.specs.declared.piece.Piece.{Piece}
 
 -- The answer to an edit with a result.
 abbrev pub edited : Result Accepted Refusal → Answer
@@ -57,26 +58,37 @@ Does Undo s answer t = AnswersMove (λ result. IsUndone s result t) answer
 Does Redo s answer t = AnswersMove (λ result. IsRedone s result t) answer
 Does (Show name) s answer t = AnswersText (shown name s) answer × (t ≡ s)
 
--- The reply to a command, and the state that it leaves.
-abbrev pub Obeys : Command → State → List ℕ → State → Type 0
-Obeys command s piece t = (answer : Answer) × Does command s.session answer t.session × (piece ≡ reply_of answer) × (t.files ≡ s.files)
+-- Whether an answer is a refusal: the command isn't done, or the line is none.
+abbrev pub refuses : Answer → Bool
+refuses (Refused refusal) = true
+refuses (Wrong error) = true
+refuses _ = false
 
--- The reply to a line that is read so: a blank line or a note has none, and one that is no command changes nothing.
-abbrev pub RepliesTo : Result (Option Command) CommandError → State → List ℕ → State → Type 0
+-- What is written for an answer: its reply, and then the text of the watched views.
+abbrev pub piece_of : Answer → List ℕ → Piece
+piece_of answer views = record { text = reply_of answer ++ views; refuses = refuses answer }
+
+-- What is written for a command, and the state that it leaves.
+abbrev pub Obeys : Command → State → Piece → State → Type 0
+Obeys command s piece t =
+    (answer : Answer) × Does command s.session answer t.session × (piece ≡ piece_of answer (watched s.session t.session)) × (t.files ≡ s.files)
+
+-- What is written for a line that is read so: nothing for a blank line or a note, and a line that is no command changes nothing.
+abbrev pub RepliesTo : Result (Option Command) CommandError → State → Piece → State → Type 0
 RepliesTo (Ok (Some command)) s piece t = Obeys command s piece t
-RepliesTo (Ok None) s piece t = (piece ≡ []) × (t ≡ s)
-RepliesTo (Err error) s piece t = (piece ≡ reply_of (Wrong error)) × (t ≡ s)
+RepliesTo (Ok None) s piece t = (piece ≡ record { text = []; refuses = false }) × (t ≡ s)
+RepliesTo (Err error) s piece t = (piece ≡ piece_of (Wrong error) []) × (t ≡ s)
 
--- The reply to a command for which there is no memory.
-abbrev pub no_memory : List ℕ
-no_memory = codes "refused: no memory\n"
+-- What is written for a command for which there is no memory.
+abbrev pub no_memory : Piece
+no_memory = record { text = codes "refused: no memory\n"; refuses = true }
 
 -- What may be answered to a command: its reply, or that there is no memory, and then it counts as not given.
-unfoldable pub Answers : State → Given → List ℕ → State → Type 0
+unfoldable pub Answers : State → Given → Piece → State → Type 0
 Answers s given piece t = RepliesTo (reading given.line given.here) s piece t ⊎ ((piece ≡ no_memory) × (t ≡ s))
 
 -- A command may be answered its reply.
-pub Answers-replies : (s : State) (given : Given) (piece : List ℕ) (t : State) → RepliesTo (reading given.line given.here) s piece t → Answers s given piece t
+pub Answers-replies : (s : State) (given : Given) (piece : Piece) (t : State) → RepliesTo (reading given.line given.here) s piece t → Answers s given piece t
 unfolding Answers
 Answers-replies s given piece t replies = inl replies
 

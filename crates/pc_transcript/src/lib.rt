@@ -5,10 +5,14 @@
 //! answer. `obey` in `obeying.rt` does one command.
 #![tactic(auto)]
 
+mod laws;
 mod obeying;
+mod piece;
 mod run;
 mod status;
 
+pub use laws::one_reply;
 pub use obeying::{obey, obey_line};
+pub use piece::Piece;
 pub use run::pecan;
 pub use status::Status;

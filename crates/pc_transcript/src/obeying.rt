@@ -1,10 +1,11 @@
 //! One command.
 
-ghost use Rattle.std.specs.Prelude.{◌≡◌, IfOk, OnErr};
+ghost use Rattle.std.specs.Prelude.{◌≡◌, [], IfOk, OnErr};
 ghost use Rattle.pc_command.specs.Replies.{reply_of};
 ghost use Rattle.pc_transcript.specs.State.{state_of};
-ghost use Rattle.pc_transcript.specs.Obeying.{edited, moved, Does, Obeys, Answers};
+ghost use Rattle.pc_transcript.specs.Obeying.{edited, moved, Does, refuses, piece_of, Obeys, Answers};
 
+use crate::piece::Piece;
 use pc_command::{Answer, Command, Refusal, read_line, reply};
 use pc_script::Given;
 use pc_session::{Accepted, Session};
@@ -21,7 +22,7 @@ pub fn obey_line<H: Shelf, L: Ledger>(
     shelf: &mut H,
     given: Given,
     work: &mut Steps<L>,
-) -> Result<Word, AllocError>
+) -> Result<Piece, AllocError>
     ensures ok { IfOk result (λ piece. Answers (state_of session.old.now (H.files shelf.old)) given piece (state_of session.new.now (H.files shelf.new))) }
     ensures err { OnErr result (state_of session.new.now (H.files shelf.new) ≡ state_of session.old.now (H.files shelf.old)) }
 {
@@ -32,11 +33,14 @@ pub fn obey_line<H: Shelf, L: Ledger>(
             Ok(piece)
         }
         Ok(None) => {
-            let piece = Word::new(alloc, b"")?;
-            Ok(piece)
+            let text = Word::new(alloc, b"")?;
+            Ok(Piece {
+                text,
+                refuses: false,
+            })
         }
         Err(error) => {
-            let piece = reply(alloc, &Answer::Wrong(error))?;
+            let piece = piece_of(alloc, Answer::Wrong(error))?;
             Ok(piece)
         }
     }
@@ -50,7 +54,7 @@ pub fn obey<H: Shelf, L: Ledger>(
     shelf: &mut H,
     command: &Command,
     work: &mut Steps<L>,
-) -> Result<Word, AllocError>
+) -> Result<Piece, AllocError>
     ensures ok { IfOk result (λ piece. Obeys command.now (state_of session.old.now (H.files shelf.old)) piece (state_of session.new.now (H.files shelf.new))) }
     ensures err { OnErr result (state_of session.new.now (H.files shelf.new) ≡ state_of session.old.now (H.files shelf.old)) }
     ensures settled { session.new.before ≡ session.new.now }
@@ -99,14 +103,33 @@ fn perform<L: Ledger>(
     }
 }
 
-// The reply with an answer. A text that is shown isn't copied.
+// What is written for an answer, while no view is watched. A text that is shown isn't copied.
+fn piece_of(alloc: Global, answer: Answer) -> Result<Piece, AllocError>
+    ensures { IfOk result (λ piece. piece ≡ piece_of answer []) }
+{
+    let refuses = refuses(&answer);
+    let text = text_of(alloc, answer)?;
+    Ok(Piece { text, refuses })
+}
+
+// The reply with an answer.
 #[tactic(auto, unfolding(pc_command::specs::Replies::reply_of))]
-fn piece_of(alloc: Global, answer: Answer) -> Result<Word, AllocError>
-    ensures { IfOk result (λ piece. piece ≡ reply_of answer) }
+fn text_of(alloc: Global, answer: Answer) -> Result<Word, AllocError>
+    ensures { IfOk result (λ text. text ≡ reply_of answer) }
 {
     match answer {
         Answer::Shown(text) => Ok(text),
         _ => reply(alloc, &answer),
+    }
+}
+
+// Whether the answer is a refusal.
+fn refuses(answer: &Answer) -> bool
+    ensures { result ≡ refuses answer.now }
+{
+    match answer {
+        Answer::Edited(_, _) | Answer::Done(_) | Answer::Shown(_) => false,
+        Answer::Refused(_) | Answer::Wrong(_) => true,
     }
 }
 

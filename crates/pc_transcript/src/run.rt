@@ -1,13 +1,14 @@
 //! A whole run.
 
-ghost use Rattle.std.specs.Prelude.{◌≡◌, ◌≢◌, ◌<◌, ◌≤◌, ◌↔◌, ℕ, List, [], true, false, length, take, OnOk, OnErr, IfSome};
+ghost use Rattle.std.specs.Prelude.{◌≡◌, ◌≢◌, ◌<◌, ◌≤◌, ◌↔◌, ℕ, List, true, false, length, take, OnOk, OnErr, IfSome};
 ghost use Rattle.std.specs.Io.KnownBytes.{Appends, Consumes, IsAtEnd};
 ghost use Rattle.pc_world.specs.Causes.{HasCause, Rose, IsSound};
 ghost use Rattle.pc_world.specs.HandedOn.{HandsOn};
 ghost use Rattle.pc_script.specs.Intake.{commands_to_come, has_ended};
-ghost use Rattle.pc_script.specs.Script.{script, whole_commands, unit_count};
+ghost use Rattle.pc_script.specs.Script.{commands_in, unit_limit, unit_count};
 ghost use Rattle.pc_session.specs.PlainSession.{opening};
 ghost use Rattle.pc_transcript.specs.State.{state_of};
+ghost use Rattle.pc_transcript.specs.Words.{AreTaken, commands_with, run_commands};
 ghost use Rattle.pc_transcript.specs.Transcript.{WritesAnswer, WritesPart, WritesReplies, WritesFront, WritesTranscript};
 
 use crate::obeying::obey_line;
@@ -29,31 +30,31 @@ pub fn pecan<S: Source, K: Sink, H: Shelf, L: Ledger>(
     shelf: &mut H,
     work: &mut Steps<L>,
 ) -> Status
-    // What is written is the replies of a transcript of the script.
-    ensures transcript { words.now ≡ [] → result ≢ Status.NoMemory
+    // What is written is the replies of a transcript of the words and the script.
+    ensures transcript { AreTaken words.now → result ≢ Status.NoMemory
         → IsSound (S.faults source.old) (S.faults source.new) → IsSound (K.faults sink.old) (K.faults sink.new)
-        → IfSome (S.left source.old) (λ bytes. WritesTranscript (script bytes) (state_of opening (H.files shelf.old))
+        → IfSome (S.left source.old) (λ bytes. WritesTranscript (run_commands words.now bytes) (state_of opening (H.files shelf.old))
         (K.written sink.old) (K.written sink.new) (H.files shelf.new) result) }
 
     // A run that ended early has written a front of such replies, and after a failed read
     // exactly the replies to the commands that stand whole in the bytes taken.
-    ensures interrupted { result ≢ Status.BadWords
-        → IfSome (S.left source.old) (λ bytes. WritesFront (script bytes) (state_of opening (H.files shelf.old))
+    ensures interrupted { AreTaken words.now
+        → IfSome (S.left source.old) (λ bytes. WritesFront (run_commands words.now bytes) (state_of opening (H.files shelf.old))
         (K.written sink.old) (K.written sink.new)) }
-    ensures read_fault { result ≡ Status.ReadFault → (taken : List ℕ) × Consumes (S.left source.old) (S.left source.new) taken
-        × WritesReplies (whole_commands taken) (state_of opening (H.files shelf.old))
+    ensures read_fault { AreTaken words.now → result ≡ Status.ReadFault → (taken : List ℕ) × Consumes (S.left source.old) (S.left source.new) taken
+        × WritesReplies (commands_with words.now taken true).items (state_of opening (H.files shelf.old))
         (K.written sink.old) (K.written sink.new) (H.files shelf.new) }
 
     // When each status comes.
-    ensures bad_words { (result ≡ Status.BadWords) ↔ (words.now ≢ []) }
+    ensures bad_words { (result ≡ Status.BadWords) ↔ ¬ AreTaken words.now }
     ensures nothing { result ≡ Status.BadWords → K.written sink.new ≡ K.written sink.old }
     ensures read { result ≡ Status.ReadFault → Rose (S.faults source.old) (S.faults source.new) }
     ensures read_told { S.faults source.old < S.faults source.new → result ≡ Status.ReadFault }
     ensures write { result ≡ Status.WriteFault → Rose (K.faults sink.old) (K.faults sink.new) }
     ensures write_told { K.faults sink.old < K.faults sink.new → result ≡ Status.WriteFault }
     ensures ended { result ≡ Status.Done → IsAtEnd (S.left source.new) }
-    ensures done { result ≡ Status.Done → IfSome (S.left source.old) (λ bytes. unit_count bytes ≤ 10000000) }
-    ensures too_many { result ≡ Status.TooManyLines → IfSome (S.left source.old) (λ bytes. 10000000 < unit_count bytes) }
+    ensures done { result ≡ Status.Done → IfSome (S.left source.old) (λ bytes. unit_count bytes ≤ unit_limit) }
+    ensures too_many { result ≡ Status.TooManyLines → IfSome (S.left source.old) (λ bytes. unit_limit < unit_count bytes) }
     ensures not_refused { result ≢ Status.Refused }
 
     // No reply is kept back.
@@ -62,6 +63,37 @@ pub fn pecan<S: Source, K: Sink, H: Shelf, L: Ledger>(
     if !words.is_empty() {
         return Status::BadWords;
     }
+    without_words(alloc, source, sink, shelf, work)
+}
+
+// The run of a command line without words.
+fn without_words<S: Source, K: Sink, H: Shelf, L: Ledger>(
+    alloc: Global,
+    source: &mut S,
+    sink: &mut K,
+    shelf: &mut H,
+    work: &mut Steps<L>,
+) -> Status
+    ensures transcript { result ≢ Status.NoMemory
+        → IsSound (S.faults source.old) (S.faults source.new) → IsSound (K.faults sink.old) (K.faults sink.new)
+        → IfSome (S.left source.old) (λ bytes. WritesTranscript (commands_in bytes false) (state_of opening (H.files shelf.old))
+        (K.written sink.old) (K.written sink.new) (H.files shelf.new) result) }
+    ensures interrupted { IfSome (S.left source.old) (λ bytes. WritesFront (commands_in bytes false) (state_of opening (H.files shelf.old))
+        (K.written sink.old) (K.written sink.new)) }
+    ensures read_fault { result ≡ Status.ReadFault → (taken : List ℕ) × Consumes (S.left source.old) (S.left source.new) taken
+        × WritesReplies (commands_in taken true).items (state_of opening (H.files shelf.old))
+        (K.written sink.old) (K.written sink.new) (H.files shelf.new) }
+    ensures taken { result ≢ Status.BadWords }
+    ensures read { result ≡ Status.ReadFault → Rose (S.faults source.old) (S.faults source.new) }
+    ensures read_told { S.faults source.old < S.faults source.new → result ≡ Status.ReadFault }
+    ensures write { result ≡ Status.WriteFault → Rose (K.faults sink.old) (K.faults sink.new) }
+    ensures write_told { K.faults sink.old < K.faults sink.new → result ≡ Status.WriteFault }
+    ensures ended { result ≡ Status.Done → IsAtEnd (S.left source.new) }
+    ensures done { result ≡ Status.Done → IfSome (S.left source.old) (λ bytes. unit_count bytes ≤ unit_limit) }
+    ensures too_many { result ≡ Status.TooManyLines → IfSome (S.left source.old) (λ bytes. unit_limit < unit_count bytes) }
+    ensures not_refused { result ≢ Status.Refused }
+    ensures handed_on { result ≢ Status.WriteFault → HandsOn (K.written sink.old) (K.handed_on sink.old) → HandsOn (K.written sink.new) (K.handed_on sink.new) }
+{
     let Ok(mut intake) = Intake::new(alloc) else {
         return Status::NoMemory;
     };
@@ -132,7 +164,7 @@ fn answer<K: Sink, H: Shelf, L: Ledger>(
 {
     match obey_line(alloc, session, shelf, given, work) {
         Ok(piece) => {
-            hand_on(sink, piece.bytes())?;
+            hand_on(sink, piece.text.bytes())?;
             Ok(())
         }
         Err(_) => {

@@ -3,13 +3,21 @@
 //! What it writes is said by `pecan` of `pc_transcript`, which does the whole run.
 #![tactic(auto)]
 
-ghost use Rattle.std.specs.Prelude.{◌≡◌, ◌<◌};
+ghost use Rattle.std.specs.Prelude.{◌≡◌, ◌≢◌, ◌<◌, ◌↔◌, ◌⊎◌, drop, IfErr, IfSome};
+ghost use Rattle.pc_world.specs.Causes.{IsSound};
+ghost use Rattle.pc_world.specs.HandedOn.{HandsOn};
+ghost use Rattle.pc_session.specs.PlainSession.{opening};
+ghost use Rattle.pc_transcript.specs.State.{state_of};
+ghost use Rattle.pc_transcript.specs.Words.{AreTaken, run_commands};
+ghost use Rattle.pc_transcript.specs.Transcript.{WritesTranscript};
+ghost use Rattle.pecan.specs.Words.{unread};
 
 use pc_syntax::Steps;
 use pc_transcript::{Status, pecan};
 use pc_world::{MemShelf, Shelf, Sink, Source, StdSink, StdSource};
 use std::alloc::Global;
 use std::env;
+use std::io::ErrorKind;
 use std::marker::Brand;
 use std::process::ExitCode;
 use std::rt::Env;
@@ -23,7 +31,7 @@ fn main(rt: HostRuntime) -> ExitCode {
     let status = match command_line(&rt) {
         Ok(words) => counted::<_, _, _, Brand>(
             rt.alloc(),
-            &words,
+            behind_first(&words),
             &mut source,
             &mut sink,
             &mut shelf,
@@ -34,18 +42,38 @@ fn main(rt: HostRuntime) -> ExitCode {
     ExitCode::from(status.code())
 }
 
-// The words after the program's name, or a status where they aren't text or there is no memory.
-fn command_line(rt: &(impl Env + AllocGlobal)) -> Result<Vec<String>, Status> {
-    let mut words = Vec::new(rt.alloc());
-    let Ok(all) = env::args(rt) else {
-        return Err(Status::BadWords);
+// The words of the command line, or a status where they aren't text or there is no memory.
+fn command_line(rt: &(impl Env + AllocGlobal)) -> Result<Vec<String>, Status>
+    ensures status { IfErr result (λ status. (status ≡ Status.BadWords) ⊎ (status ≡ Status.NoMemory)) }
+{
+    let all = match env::args(rt) {
+        Ok(all) => all,
+        Err(error) => return Err(unread(error.kind())),
     };
-    for word in all.skip(1) {
-        if words.push(word).is_err() {
-            return Err(Status::NoMemory);
-        }
+    match all.collect(rt.alloc()) {
+        Ok(words) => Ok(words),
+        Err(_) => Err(Status::NoMemory),
     }
-    Ok(words)
+}
+
+// The status where the words can't be read, for an error of this kind.
+fn unread(kind: ErrorKind) -> Status
+    ensures { result ≡ unread kind }
+{
+    match kind {
+        ErrorKind::OutOfMemory => Status::NoMemory,
+        _ => Status::BadWords,
+    }
+}
+
+// All words but the first, which is the program's name.
+fn behind_first(words: &[String]) -> &[String]
+    ensures { result.now ≡ drop 1 words.now }
+{
+    match words {
+        [_, rest @ ..] => rest,
+        [] => words,
+    }
 }
 
 // The run, with a count of its own.
@@ -60,6 +88,14 @@ fn counted<S: Source, K: Sink, H: Shelf, L: Ledger>(
     requires name { blank.name ≡ L.name }
     requires parts { blank.parts ≡ L.parts }
     requires some { 0 < blank.parts }
+
+    // The words are those that `pecan` gets, and what is written is what it says.
+    ensures bad_words { (result ≡ Status.BadWords) ↔ ¬ AreTaken words.now }
+    ensures transcript { AreTaken words.now → result ≢ Status.NoMemory
+        → IsSound (S.faults source.old) (S.faults source.new) → IsSound (K.faults sink.old) (K.faults sink.new)
+        → IfSome (S.left source.old) (λ bytes. WritesTranscript (run_commands words.now bytes) (state_of opening (H.files shelf.old))
+        (K.written sink.old) (K.written sink.new) (H.files shelf.new) result) }
+    ensures handed_on { result ≢ Status.WriteFault → HandsOn (K.written sink.old) (K.handed_on sink.old) → HandsOn (K.written sink.new) (K.handed_on sink.new) }
 {
     let mut work = Steps::<L>::new(blank);
     pecan(alloc, words, source, sink, shelf, &mut work)

@@ -3,6 +3,7 @@ use Rattle.std.proofs.lemmas.Bool.Decides.{nat_tests}
 use Rattle.std.proofs.lemmas.Grind.{common_steps}
 use Rattle.std.proofs.lemmas.List.{get_or_read}
 use Rattle.pc_script.specs.Intake.{has_ended, bytes_to_come, allowance}
+use Rattle.pc_script.specs.Script.{unit_length}
 use Rattle.pc_script.proofs.IntakeSteps.{Took-end, Took-too_many, Took-item, part_of-none, part_of-cons, within-ends_unit, within-in_unit}
 use Rattle.pc_script.proofs.ReadingSteps.{Took-filled}
 use Rattle.pc_script.proofs.intake.Intake.next.Goals as goal
@@ -17,7 +18,7 @@ returns-then-not-branch-clause-ok g c =
     Took-filled _ _ _ _ c.in_ok-fill.ensures.ok (Took-end _ _ _ _ _ (part_of-none _ _ _ none) ended)
 
 pub returns-then-not-branch-clause-falls : goal.returns-then-not-branch-clause-falls
-unfolding allowance
+unfolding allowance unit_length
 returns-then-not-branch-clause-falls g c = omega (arith, c.fill.ensures.same.0, c.fill.ensures.same.1)
 
 pub returns-then-self-eq0-clause-ok : goal.returns-then-self-eq0-clause-ok
@@ -29,7 +30,7 @@ returns-then-self-eq0-clause-ok g c =
     Took-filled _ _ _ _ c.in_ok-fill.ensures.ok (Took-too_many _ _ _ _ _ _ _ c.if-self-eq0.true (part_of-cons _ _ _ some fits))
 
 pub returns-then-self-eq0-clause-falls : goal.returns-then-self-eq0-clause-falls
-unfolding allowance
+unfolding allowance unit_length
 returns-then-self-eq0-clause-falls g c = omega (arith, c.fill.ensures.same.0, c.fill.ensures.same.1)
 
 pub returns-then-self-eq1-clause-ok : goal.returns-then-self-eq1-clause-ok
@@ -42,11 +43,11 @@ returns-then-self-eq1-clause-ok g c =
     let byte : c.index-byte.result.now ≡ get_or i.buffer.items i.start 0 = get_or_read i.buffer.items _ _ (omega arith) c.index-byte.ensures 0 in
     let full : (eqb (get_or i.buffer.items i.start 0) 10 || leb i.room 1) ≡ true =
     elim c.if-byte-eq10.branch [ then-byte-eq10 w ↦ grind (arith, nat_tests) | else-byte-eq10 w ↦ grind (arith, nat_tests) ] in
-    rw byte (Took-filled _ _ _ _ c.in_ok-fill.ensures.ok (Took-item _ _ _ _ _ _ _ _ _ (part_of-cons _ _ _ some fits) (λ bs. within-ends_unit _ _ _ bs left full)))
+    rw (byte, c.unit_length-self.ensures.value) (Took-filled _ _ _ _ c.in_ok-fill.ensures.ok (Took-item _ _ _ _ _ _ _ _ _ (part_of-cons _ _ _ some fits) (λ bs. within-ends_unit _ _ _ bs left full)))
 
 pub returns-then-self-eq1-clause-falls : goal.returns-then-self-eq1-clause-falls
-unfolding allowance
-returns-then-self-eq1-clause-falls g c = omega (arith, c.fill.ensures.same.0, c.fill.ensures.same.1)
+unfolding allowance unit_length
+returns-then-self-eq1-clause-falls g c = omega (arith, c.unit_length-self.ensures.value, c.fill.ensures.same.0, c.fill.ensures.same.1)
 
 pub returns-else-self-eq1-clause-ok : goal.returns-else-self-eq1-clause-ok
 unfolding has_ended bytes_to_come
@@ -61,5 +62,5 @@ returns-else-self-eq1-clause-ok g c =
     rw byte (Took-filled _ _ _ _ c.in_ok-fill.ensures.ok (Took-item _ _ _ _ _ _ _ _ _ (part_of-cons _ _ _ some fits) (λ bs. within-in_unit _ _ _ bs left part)))
 
 pub returns-else-self-eq1-clause-falls : goal.returns-else-self-eq1-clause-falls
-unfolding allowance
+unfolding allowance unit_length
 returns-else-self-eq1-clause-falls g c = omega (arith, c.fill.ensures.same.0, c.fill.ensures.same.1)
