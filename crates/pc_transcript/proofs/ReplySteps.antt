@@ -1,5 +1,5 @@
 -- What may be answered to a line, from what it was read as.
-use Rattle.std.proofs.Common.{◌≡◌, [], Option, Result, Ok, Err, inl, inr, refl, subst}
+use Rattle.std.proofs.Common.{◌≡◌, ap, ℕ, List, false, [], Option, Result, Ok, Err, inl, inr, refl, subst}
 use Rattle.pc_script.specs.declared.given.Given.{Given}
 use Rattle.pc_command.specs.declared.command.Command.{Command}
 use Rattle.pc_command.specs.declared.error.CommandError.{CommandError}
@@ -30,3 +30,10 @@ Answers-wrong s given error piece (inl none) is =
 Answers-wrong s given error piece (inr read) is =
     let P : Result (Option Command) CommandError → Type 0 = λ r. RepliesTo r s piece s in
     Answers-replies s given piece s (subst P read (is, refl))
+
+-- What is written for a line that asks for nothing.
+abbrev pub unasked : List ℕ → Piece
+unasked text = record { text = text; refuses = false }
+
+pub unasked-is : (text : List ℕ) → text ≡ [] → unasked text ≡ unasked []
+unasked-is text is = ap unasked is
