@@ -1,5 +1,5 @@
 -- What is answered to a command is determined.
-use Rattle.std.proofs.Common.{◌≡◌, ◌≢◌, ◌<◌, ◌≤◌, ℕ, Bool, true, false, List, [], Option, Some, None, Result, Ok, Err, ◌⊎◌, inl, inr, refl, sym, ◌∙◌, ap, arith, subst, ◌-◌, ◌∷◌, ◌++◌}
+use Rattle.std.proofs.Common.{◌≡◌, ◌≢◌, ℕ, Bool, true, false, List, [], Option, Some, None, Result, Ok, Err, ◌⊎◌, inl, inr, refl, sym, ◌∙◌, ap, arith, subst, ◌-◌, ◌∷◌, ◌++◌}
 use Rattle.std.specs.Prelude.{MatchBool, MatchOption}
 use Rattle.std.specs.Option.{IsSome}
 use Rattle.pc_syntax.specs.declared.error.EditError.{EditError}
@@ -7,7 +7,7 @@ use Rattle.pc_syntax.specs.declared.error.EditError.TheVariants as edit
 use Rattle.pc_syntax.specs.Plain.{Plain}
 use Rattle.pc_syntax.specs.Make.{Answers}
 use Rattle.pc_syntax.specs.Places.{at, put}
-use Rattle.pc_syntax.specs.Edits.{gives_way, PutAnswers, with_more, has_room, AddAnswers, cut}
+use Rattle.pc_syntax.specs.Edits.{gives_way, PutAnswers, with_more, has_room, AddAnswers}
 use Rattle.pc_syntax.specs.Templates.{template_of}
 use Rattle.pc_syntax.specs.declared.class.Class.{Class}
 use Rattle.pc_syntax.specs.declared.class.Class.TheVariants as class
@@ -28,13 +28,12 @@ use Rattle.pc_command.specs.declared.refusal.Refusal.TheVariants as refusal
 use Rattle.pc_session.specs.declared.accepted.Accepted.{Accepted}
 use Rattle.pc_session.specs.declared.made.Made.{Made}
 use Rattle.pc_session.specs.PlainSession.{PlainSession, with_trees}
-use Rattle.pc_session.specs.Trees.{edited}
 use Rattle.pc_session.specs.TreesLaws.{one_undo, one_redo}
 use Rattle.pc_session.specs.Loading.{IsFaulty, IsWritten, Drops, IsMisfit}
 use Rattle.pc_session.specs.LoadingLaws.{one_written, one_dropped, one_fault, written_fits, written_is_faultless, misfit_is_faultless}
 use Rattle.pc_session.specs.Editing.{IsOver, WritesOver, Writes, Rewrites, Retypes, takes_element, Puts, Adds, Cuts, sort_at, IsAtList, Places, WritesUnplaced, Fills}
 use Rattle.pc_session.specs.Making.{refused}
-use Rattle.pc_session.specs.Commands.{Accepts, Edits, IsUndone, IsRedone, shown}
+use Rattle.pc_session.specs.Commands.{Accepts}
 use Rattle.pc_session.specs.CommandsLaws.{MakesOne, OneEdit, OneUndone, OneRedone, OneShown}
 
 -- From what an edit makes to what is answered to it.
