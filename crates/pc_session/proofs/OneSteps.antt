@@ -1,6 +1,5 @@
 -- What is answered to a command is determined.
-use Rattle.std.proofs.Common.{◌≡◌, ◌≢◌, ◌<◌, ◌≤◌, ℕ, Bool, true, false, List, [], Option, Some, None, Result, Ok, Err, ◌⊎◌, inl, inr, refl, sym, ◌∙◌, ap, arith, subst, ◌-◌, ◌∷◌, ◌++◌}
-use Rattle.std.proofs.lemmas.Bool.{cases_order}
+use Rattle.std.proofs.Common.{◌≡◌, ◌≢◌, ℕ, Bool, true, false, List, [], Option, Some, None, Result, Ok, Err, ◌⊎◌, inl, inr, refl, sym, ◌∙◌, ap, arith, subst, ◌-◌, ◌∷◌, ◌++◌}
 use Rattle.std.specs.Prelude.{MatchBool, MatchOption}
 use Rattle.std.specs.Option.{IsSome}
 use Rattle.pc_syntax.specs.declared.error.EditError.{EditError}
@@ -8,7 +7,7 @@ use Rattle.pc_syntax.specs.declared.error.EditError.TheVariants as edit
 use Rattle.pc_syntax.specs.Plain.{Plain}
 use Rattle.pc_syntax.specs.Make.{Answers}
 use Rattle.pc_syntax.specs.Places.{at, put}
-use Rattle.pc_syntax.specs.Edits.{gives_way, PutAnswers, with_more, has_room, AddAnswers, cut}
+use Rattle.pc_syntax.specs.Edits.{gives_way, PutAnswers, with_more, has_room, AddAnswers}
 use Rattle.pc_syntax.specs.Templates.{template_of}
 use Rattle.pc_syntax.specs.declared.class.Class.{Class}
 use Rattle.pc_syntax.specs.declared.class.Class.TheVariants as class
@@ -19,6 +18,7 @@ use Rattle.pc_lex.specs.Spells.{PlainSymbol}
 use Rattle.pc_lex.specs.Laws.{Spells-unique, Spells-faultless}
 use Rattle.pc_parse.specs.Reading.{class_of}
 use Rattle.pc_parse.specs.Answers.{IsUnfit, IsWithin}
+use Rattle.pc_parse.specs.Laws.{OneNumber}
 use Rattle.pc_pretty.specs.declared.range.Range.{Range}
 use Rattle.pc_pretty.specs.Printed.{printed}
 use Rattle.pc_pretty.specs.Ranges.{range_span, replaced}
@@ -28,13 +28,12 @@ use Rattle.pc_command.specs.declared.refusal.Refusal.TheVariants as refusal
 use Rattle.pc_session.specs.declared.accepted.Accepted.{Accepted}
 use Rattle.pc_session.specs.declared.made.Made.{Made}
 use Rattle.pc_session.specs.PlainSession.{PlainSession, with_trees}
-use Rattle.pc_session.specs.Trees.{edited}
 use Rattle.pc_session.specs.TreesLaws.{one_undo, one_redo}
 use Rattle.pc_session.specs.Loading.{IsFaulty, IsWritten, Drops, IsMisfit}
 use Rattle.pc_session.specs.LoadingLaws.{one_written, one_dropped, one_fault, written_fits, written_is_faultless, misfit_is_faultless}
 use Rattle.pc_session.specs.Editing.{IsOver, WritesOver, Writes, Rewrites, Retypes, takes_element, Puts, Adds, Cuts, sort_at, IsAtList, Places, WritesUnplaced, Fills}
 use Rattle.pc_session.specs.Making.{refused}
-use Rattle.pc_session.specs.Commands.{Accepts, Edits, IsUndone, IsRedone, shown}
+use Rattle.pc_session.specs.Commands.{Accepts}
 use Rattle.pc_session.specs.CommandsLaws.{MakesOne, OneEdit, OneUndone, OneRedone, OneShown}
 
 -- From what an edit makes to what is answered to it.
@@ -260,16 +259,7 @@ one_cut path p (Err refusal.NoPlace) (Err _) left right x never = absurd never
 one_cut path p (Err _) b left right never y = absurd never
 
 -- Texts: the number of a misfit is one.
-abbrev pub OneMisfit : Type 0
-OneMisfit = (c : Class) (ss : List PlainSymbol) (j k : ℕ) → IsUnfit c ss j → IsUnfit c ss k → j ≡ k
-
-pub one_number : OneMisfit
-one_number c ss j k p q = elim (cases_order j k) [
-  | inl same ↦ same
-  | inr other ↦ elim other [ inl before ↦ absurd (p.least (omega (arith, before, q.within)) (q.begins j before)) | inr after ↦ absurd (q.least (omega (arith, after, p.within)) (p.begins k after)) ]
-]
-
-one_misfit : OneMisfit → (c : Class) (text : List ℕ) (j k : ℕ) → IsMisfit c text j → IsMisfit c text k → j ≡ k
+one_misfit : OneNumber → (c : Class) (text : List ℕ) (j k : ℕ) → IsMisfit c text j → IsMisfit c text k → j ≡ k
 one_misfit one c text j k x y =
     let e : x.symbols ≡ y.symbols = (Spells-unique text x.symbols y.symbols x.tail y.tail x.spells y.spells).0 in
     let P : List PlainSymbol → Type 0 = λ ss. IsUnfit c ss k in
@@ -319,7 +309,7 @@ write-way text p (Err (refusal.TooLarge n)) free x = Over (edit.TooLarge n) x re
 write-way text p (Err refusal.NoMemory) free x = absurd (free refl)
 write-way text p (Err _) free never = absurd never
 
-one_writing : OneMisfit → (text : List ℕ) (a b : Result Made Refusal) → Written text a → Written text b → a ≡ b
+one_writing : OneNumber → (text : List ℕ) (a b : Result Made Refusal) → Written text a → Written text b → a ≡ b
 one_writing one text a b (Made_so m w i d is) (Made_so n v j e same) =
     let tree : m.tree ≡ n.tree = one_written class.Program text m.tree n.tree w v in
     let P : Plain → Type 0 = λ t. Drops text t n.dropped in
@@ -340,7 +330,7 @@ one_writing one text a b (Over e x is) (Faulty f y same) = absurd (written_is_fa
 one_writing one text a b (Over e x is) (Misfit k y same) = absurd (written_fits class.Program text x.0 k x.1 y)
 one_writing one text a b (Over e x is) (Over f y same) = is ∙ ap (λ z. unedited (refused z)) (one_overwritten text e f x y) ∙ sym same
 
-pub one_load : OneMisfit → (text : List ℕ) (p : Plain) (a b : Result Made Refusal) → a ≢ Err refusal.NoMemory → b ≢ Err refusal.NoMemory → Writes text p a → Writes text p b → a ≡ b
+pub one_load : OneNumber → (text : List ℕ) (p : Plain) (a b : Result Made Refusal) → a ≢ Err refusal.NoMemory → b ≢ Err refusal.NoMemory → Writes text p a → Writes text p b → a ≡ b
 one_load one text p a b left right x y = one_writing one text a b (write-way text p a left x) (write-way text p b right y)
 
 -- Retyping: there is no range, or the new text is written.
@@ -370,7 +360,7 @@ retype-way range new p (Err refusal.NothingToRedo) free x = inr x
 no_span : (o : Option Span) (s : Span) → o ≡ None → o ≡ Some s → ⊥
 no_span o s none some = let no = sym none ∙ some in cc
 
-one_retyping : OneMisfit → (range : Range) (new : List ℕ) (p : Plain) (a b : Result Made Refusal) → a ≢ Err refusal.NoMemory → b ≢ Err refusal.NoMemory →
+one_retyping : OneNumber → (range : Range) (new : List ℕ) (p : Plain) (a b : Result Made Refusal) → a ≢ Err refusal.NoMemory → b ≢ Err refusal.NoMemory →
     RetypeWay range new p a → RetypeWay range new p b → a ≡ b
 one_retyping one range new p a b left right (inl x) (inl y) = x.1 ∙ sym y.1
 one_retyping one range new p a b left right (inl x) (inr y) = absurd (no_span (range_span (printed p) range) y.1.0 x.0 y.1.1)
@@ -380,7 +370,7 @@ one_retyping one range new p a b left right (inr x) (inr y) =
     let P : List ℕ → Type 0 = λ t. Writes t p b in
     one_load one x.0 p a b left right x.2 (subst P text y.2)
 
-pub one_retype : OneMisfit → (range : Range) (new : List ℕ) (p : Plain) (a b : Result Made Refusal) → a ≢ Err refusal.NoMemory → b ≢ Err refusal.NoMemory →
+pub one_retype : OneNumber → (range : Range) (new : List ℕ) (p : Plain) (a b : Result Made Refusal) → a ≢ Err refusal.NoMemory → b ≢ Err refusal.NoMemory →
     Retypes range new p a → Retypes range new p b → a ≡ b
 one_retype one range new p a b left right x y = one_retyping one range new p a b left right (retype-way range new p a left x) (retype-way range new p b right y)
 
@@ -462,7 +452,7 @@ one_put_refused path q r p e f same left right x y =
     let is = one_result path q r p (Err e) (Err f) same (unplace e left) (unplace f right) x y in
     cc
 
-one_filling : OneMisfit → (path text : List ℕ) (p : Plain) (a b : Result Made Refusal) → Filled path text p a → Filled path text p b → a ≡ b
+one_filling : OneNumber → (path text : List ℕ) (p : Plain) (a b : Result Made Refusal) → Filled path text p a → Filled path text p b → a ≡ b
 one_filling one path text p a b (No_place x_none x_is) (No_place y_none y_is) = x_is ∙ sym y_is
 one_filling one path text p a b (No_place x_none x_is) (Faulty_text y_f y_some y_fault y_is) = absurd (no_node (at path p) x_none y_some)
 one_filling one path text p a b (No_place x_none x_is) (At_list y_list y_is) = absurd (no_node (at path p) x_none y_list.place)
@@ -505,5 +495,5 @@ one_filling one path text p a b (Not_put x_s x_q x_e x_sort x_written x_places x
 one_filling one path text p a b (Not_put x_s x_q x_e x_sort x_written x_places x_free x_is) (Not_put y_s y_q y_e y_sort y_written y_places y_free y_is) =
     x_is ∙ ap (λ z. unedited (refused z)) (one_put_refused path x_q y_q p x_e y_e (one_piece (sort_at path p) text x_s y_s x_q y_q x_sort y_sort x_written y_written) x_free y_free x_places y_places) ∙ sym y_is
 
-pub one_fill : OneMisfit → (path text : List ℕ) (p : Plain) (a b : Result Made Refusal) → a ≢ Err refusal.NoMemory → b ≢ Err refusal.NoMemory → Fills path text p a → Fills path text p b → a ≡ b
+pub one_fill : OneNumber → (path text : List ℕ) (p : Plain) (a b : Result Made Refusal) → a ≢ Err refusal.NoMemory → b ≢ Err refusal.NoMemory → Fills path text p a → Fills path text p b → a ≡ b
 one_fill one path text p a b left right x y = one_filling one path text p a b (fill-way path text p a left x) (fill-way path text p b right y)

@@ -8,7 +8,7 @@ use Rattle.pc_syntax.specs.declared.sort.Sort.{Sort}
 use Rattle.pc_syntax.specs.declared.error.EditError.{EditError}
 use Rattle.pc_syntax.specs.declared.error.EditError.TheVariants as edit
 use Rattle.pc_syntax.specs.Plain.{Plain}
-use Rattle.pc_syntax.specs.WellFormed.{depth_of, size_of, size_limit}
+use Rattle.pc_syntax.specs.WellFormed.{depth_of, size_of, depth_limit, size_limit}
 use Rattle.pc_syntax.specs.Measured.{level_count, node_count}
 use Rattle.pc_syntax.specs.Places.{at, put}
 use Rattle.pc_syntax.specs.Edits.{PutAnswers, has_room, AddAnswers, cut}
@@ -27,8 +27,8 @@ use Rattle.pc_session.specs.Loading.{IsSpelled, IsFaulty, IsWritten, Drops, IsMi
 
 -- Where such a program would be the new one, it is over a limit; the number tells its levels or else its nodes.
 abbrev pub IsOver : Plain → Result Plain EditError → Type 0
-IsOver tree (Err (edit.TooDeep depth)) = (256 < depth_of tree) × (depth ≡ level_count tree)
-IsOver tree (Err (edit.TooLarge size)) = (depth_of tree ≤ 256) × (size_limit < size_of tree) × (size ≡ node_count tree)
+IsOver tree (Err (edit.TooDeep depth)) = (depth_limit < depth_of tree) × (depth ≡ level_count tree)
+IsOver tree (Err (edit.TooLarge size)) = (depth_of tree ≤ depth_limit) × (size_limit < size_of tree) × (size ≡ node_count tree)
 IsOver tree _ = ⊥
 
 -- The text writes a program that is over a limit.

@@ -7,9 +7,9 @@ ghost use Rattle.pc_session.specs.Making.{MakesTemplate, refused};
 
 use crate::load::symbols_of;
 use crate::made::Made;
-use crate::measuring::unread;
+use crate::measuring::unfilled;
 use pc_command::Refusal;
-use pc_parse::read;
+use pc_parse::read_or_measure;
 use pc_syntax::{EditError, Path, Steps, Tree, template};
 use std::alloc::Global;
 use std::sync::ledger::Ledger;
@@ -69,9 +69,9 @@ pub fn with_text<L: Ledger>(
     let Some(sort) = old.kind().sort() else {
         return Err(Refusal::NotFit(0));
     };
-    let reading = match read(alloc, sort, &lexed, work) {
+    let reading = match read_or_measure(alloc, sort, &lexed, work) {
         Ok(reading) => reading,
-        Err(error) => return Err(unread(alloc, tree, path, sort, &lexed, error)),
+        Err(error) => return Err(unfilled(tree, path, sort, &lexed, error)),
     };
     let dropped = reading.dropped;
     match tree.put(alloc, path, &reading.tree) {

@@ -4,6 +4,8 @@ ghost use Rattle.pc_session.specs.LoadingLaws.{OneWritten, OneDropped, OneFault,
 ghost use Rattle.pc_session.specs.TreesLaws.{OneUndo, OneRedo};
 ghost use Rattle.pc_session.specs.CommandsLaws.{OneLoad, OnePut, OneAdd, OneFill, OneRetype, OneCut, OneUndone, OneRedone, OneShown};
 
+use pc_parse::one_number;
+
 /// The three answers to a text that is read as a tree of a class exclude each other: it has such a tree, or it is a misfit, or
 /// it spells no symbols. A text has at most one such tree, one number of comments that the tree doesn't keep, and one first fault.
 pub fn one_answer()
@@ -24,7 +26,9 @@ pub fn undo_and_redo()
 /// What is answered to a `load` is determined, want of memory aside, and so is the session that it leaves.
 pub fn one_load()
     ensures { OneLoad }
-{}
+{
+    one_number();
+}
 
 /// What is answered to a `put` is determined, want of memory aside, and so is the session that it leaves.
 pub fn one_put()
@@ -39,12 +43,16 @@ pub fn one_add()
 /// What is answered to a `fill` is determined, want of memory aside, and so is the session that it leaves.
 pub fn one_fill()
     ensures { OneFill }
-{}
+{
+    one_number();
+}
 
 /// What is answered to a `retype` is determined, want of memory aside, and so is the session that it leaves.
 pub fn one_retype()
     ensures { OneRetype }
-{}
+{
+    one_number();
+}
 
 /// What is answered to a `cut` is determined, want of memory aside, and so is the session that it leaves.
 pub fn one_cut()
