@@ -39,25 +39,18 @@ use std::sync::ledger::{Blank, Ledger};
 
 fn main(rt: HostRuntime) -> ExitCode {
     let mut tally = Tally::new(rt.alloc());
-    for (name, topic) in Topic::FILES {
-        match fs::read(&rt, name) {
-            Ok(text) => counted::<Brand>(rt.alloc(), &mut tally, name, topic, &text, Blank::new(1)),
-            Err(_) => tally.unread(rt.alloc(), name),
-        }
-    }
+    counted::<_, Brand>(&rt, rt.alloc(), &mut tally, Blank::new(1));
     let written = rt.stdout().write_all(tally.report());
     let (held, failed) = (tally.held, tally.failed);
     let ended = println!(rt; "{held} cases hold, {failed} fail");
     ExitCode::from(u8::from(failed != 0 || written.is_err() || ended.is_err()))
 }
 
-// The cases of a file, with a count of work of their own.
-fn counted<L: Ledger>(
+// The cases of all files, with a count of work of their own.
+fn counted<R: Files + AllocGlobal, L: Ledger>(
+    rt: &R,
     alloc: Global,
     tally: &mut Tally,
-    name: &'static str,
-    topic: Topic,
-    text: &[u8],
     blank: Blank,
 )
     requires name { blank.name ≡ L.name }
@@ -65,5 +58,10 @@ fn counted<L: Ledger>(
     requires some { 0 < blank.parts }
 {
     let mut work = Steps::<L>::new(blank);
-    tally.run(alloc, name, topic, text, &mut work);
+    for (name, topic) in Topic::FILES {
+        match fs::read(rt, name) {
+            Ok(text) => tally.run(alloc, name, topic, &text, &mut work),
+            Err(_) => tally.unread(alloc, name),
+        }
+    }
 }
