@@ -1,5 +1,5 @@
 -- What a node holds and counts, from its parts: lemmas.
-use Rattle.std.specs.Prelude.{◌≡◌, ℕ, zero, suc, ◌+◌, ◌≤◌, ◌<◌, max, List, [], ◌∷◌, Option, None, slice_get, ◌-◌, false, map, sum_by, length, if◌then◌else◌, Bool}
+use Rattle.std.specs.Prelude.{◌≡◌, ℕ, suc, ◌+◌, ◌≤◌, ◌<◌, max, List, [], ◌∷◌, slice_get, ◌-◌, false, map, sum_by, length}
 use Rattle.std.proofs.Common.{refl, ap, sym, ◌∙◌, get_or, arith}
 use Rattle.std.proofs.lemmas.List.Sums.{sum_by-cons, get_or-le-sum_by}
 use Rattle.std.specs.Option.{option_map_or}
@@ -7,9 +7,8 @@ use Rattle.pc_syntax.specs.declared.kind.Kind.{Kind}
 use Rattle.pc_syntax.specs.declared.kind.Kind.TheVariants.{Hole}
 use Rattle.pc_syntax.specs.declared.sort.Sort.{Sort}
 use Rattle.pc_syntax.specs.Plain.{Forest, Nil, Cons, Plain, trees_of, forest_of, node, kids_of, count}
-use Rattle.pc_syntax.specs.Sorts.{is_hole}
 use Rattle.pc_syntax.specs.WellFormed.{size_in, size_of, depth_in, depth_of, holes_in, holes_of, opens, last_open, second_open, size_limit-is, IsProper}
-use Rattle.pc_syntax.specs.Parts.{largest, hole_count, is_open, kid_at}
+use Rattle.pc_syntax.specs.Parts.{largest, hole_count, is_open}
 
 -- a forest and the list of its trees
 pub trees_of-forest_of : (ts : List Plain) → trees_of (forest_of ts) ≡ ts

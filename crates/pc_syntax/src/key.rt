@@ -1,6 +1,6 @@
 //! Keys of routines.
 
-ghost use Rattle.std.specs.Prelude.{◌≡◌, []};
+ghost use Rattle.std.specs.Prelude.{◌≡◌, [], ◌∷◌, ◌++◌, IfOk};
 ghost use Rattle.pc_syntax.specs.Paths.{key_of, is_small_name, ReadsAs};
 
 use crate::bytes::is_spelled;
@@ -8,7 +8,7 @@ use crate::error::ReadError;
 use crate::parts::parts_behind;
 use crate::word::Word;
 use crate::words::has_name_form;
-use std::alloc::Global;
+use std::alloc::{AllocError, Global};
 use std::marker::Model;
 
 /// Which routine of a program: the names of the routines around it from the outermost on, and its own. The program
@@ -41,6 +41,26 @@ impl Key {
         ensures { result.now ≡ self.now }
     {
         &self.names
+    }
+
+    /// The key of a routine directly in the one with this key, by its name in small letters. Fails for want of memory only.
+    pub fn child(&self, alloc: Global, name: &[u8]) -> Result<Key, AllocError>
+        ensures { IfOk result (λ key. key ≡ self.now ++ name.now ∷ []) }
+    {
+        let mut key = self.copy(alloc)?;
+        key.names.push(Word::new(alloc, name)?)?;
+        Ok(key)
+    }
+
+    /// The same key once more. Fails for want of memory only.
+    pub fn copy(&self, alloc: Global) -> Result<Key, AllocError>
+        ensures { IfOk result (λ key. key ≡ self.now) }
+    {
+        let mut names = Vec::with_capacity(alloc, self.names.len())?;
+        for name in &self.names {
+            names.push(name.copy(alloc)?)?;
+        }
+        Ok(Key { names })
     }
 
     /// The key that the word writes: `.` for the program, or `.` before each name, as `.p.q`. A name is in small letters,

@@ -34,6 +34,22 @@ impl Path {
         }
     }
 
+    /// The path with these steps, each the number of a kid, from 1. Fails for want of memory only.
+    pub fn of(alloc: Global, steps: &[u32]) -> Result<Path, AllocError>
+        ensures { IfOk result (λ path. path ≡ steps.now) }
+    {
+        Ok(Path {
+            steps: SmallVec::from_slice(alloc, steps)?,
+        })
+    }
+
+    /// The same path once more. Fails for want of memory only.
+    pub fn copy(&self, alloc: Global) -> Result<Path, AllocError>
+        ensures { IfOk result (λ path. path ≡ self.now) }
+    {
+        Path::of(alloc, self.steps())
+    }
+
     /// The number of the kid, from 1, at each step from the root.
     pub fn steps(&self) -> &[u32]
         ensures { result.now ≡ self.now }
