@@ -1,0 +1,9 @@
+pub mod RowsLaws
+pub mod ShapesLaws
+pub mod OwnersLaws
+pub mod GrowthLaws
+pub mod SizesLaws
+pub mod TargetsLaws
+pub mod FieldsLaws
+pub mod OpeningLaws
+pub mod ExpandLaws

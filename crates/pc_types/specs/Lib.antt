@@ -1,0 +1,14 @@
+pub mod Shapes
+pub mod Sameness
+pub mod TypeClasses
+pub mod Compatibility
+pub mod Sizes
+pub mod Domains
+pub mod Expanded
+pub mod Table
+pub mod Rows
+pub mod Outlines
+pub mod Outlined
+pub mod Growth
+pub mod Expansions
+pub mod TableLaws

@@ -1,0 +1,31 @@
+//! Domains of pointer types and their types.
+
+ghost use Rattle.std.specs.Prelude.{◌≡◌, ◌<◌, length, option_map, get_or};
+ghost use Rattle.pc_types.specs.Table.{numbered, domain_at};
+ghost use Rattle.pc_types.specs.Rows.{seen, TargetThere};
+ghost use Rattle.pc_types.specs.Growth.{Retargets};
+
+use crate::form::{DomainId, TypeId};
+use crate::types::Types;
+use sqlite_items::at;
+
+impl Types {
+    /// The type of the domain, where it is known and has neither an error nor a hole. There is none for a number that is not there.
+    pub fn domain(&self, id: DomainId) -> Option<TypeId>
+        ensures { option_map (numbered (seen self.now).shapes) result ≡ (domain_at (seen self.now) id).shape }
+    {
+        match at(&self.domains, id.0 as usize) {
+            Some(row) => row.of,
+            None => None,
+        }
+    }
+
+    /// The domain has this type from now on, or none.
+    pub fn set_domain(&mut self, id: DomainId, of: Option<TypeId>)
+        requires there { id.0 < length (seen self.old).domains }
+        requires target { TargetThere (length (seen self.old).shapes) (option_map (λ i. i.0) of) }
+        ensures { Retargets (seen self.old) (seen self.new) id.0 (option_map (numbered (seen self.old).shapes) of) }
+    {
+        self.domains[id.0 as usize].of = of;
+    }
+}
