@@ -1,0 +1,7 @@
+pub mod InOrder
+pub mod Chains
+pub mod Firsts
+pub mod Parts
+pub mod Regions
+pub mod FromTop
+pub mod OwnerExamples

@@ -1,0 +1,13 @@
+pub mod Required
+pub mod Headings
+pub mod Blocks
+pub mod Declarations
+pub mod Places
+pub mod Waiting
+pub mod Around
+pub mod Lookup
+pub mod Entries
+pub mod Table
+pub mod Stands
+pub mod Spelled
+pub mod FoundAs

@@ -1,0 +1,30 @@
+//! How two places of a tree stand to each other.
+
+ghost use Rattle.std.specs.Prelude.{◌≡◌};
+ghost use Rattle.pc_scope.specs.Places as places;
+
+/// Whether a place comes before another in the text, or around it.
+pub fn is_before(place: &[u32], other: &[u32]) -> bool
+    ensures { result ≡ places.is_before place.now other.now }
+{
+    let [i, is @ ..] = place else {
+        return !other.is_empty();
+    };
+    let [j, js @ ..] = other else {
+        return false;
+    };
+    if *i == *j { is_before(is, js) } else { *i < *j }
+}
+
+/// Whether the second place is that of the node at the first, or below it.
+pub fn stands_in(place: &[u32], other: &[u32]) -> bool
+    ensures { result ≡ places.stands_in place.now other.now }
+{
+    let [i, is @ ..] = place else {
+        return true;
+    };
+    let [j, js @ ..] = other else {
+        return false;
+    };
+    *i == *j && stands_in(is, js)
+}
