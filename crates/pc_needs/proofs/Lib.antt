@@ -1,0 +1,15 @@
+pub mod Lists
+pub mod Owners
+pub mod KeyLemmas
+pub mod AnswerLemmas
+pub mod NeedsLemmas
+pub mod VariableOwners
+pub mod BlockOwners
+pub mod ParameterLemmas
+pub mod PlaceLemmas
+pub mod TouchedLemmas
+pub mod WaitingLemmas
+pub mod UniqueLemmas
+pub mod UniqueRoutines
+pub mod ForwardLemmas
+pub mod InsideLemmas

@@ -1,0 +1,8 @@
+//! What a routine needs from the rest of its program: the names that it uses, each with what it means there (ISO 7185, 6.2.2).
+//!
+//! Read `UsedNames`, `Answers` and `Needs` of `specs/`, then `Unaffected`, which says when a change of the program doesn't affect a routine.
+#![tactic(auto)]
+
+mod laws;
+
+pub use laws::{forward_gives, inside_touch, keys_name_one, needs_decide};
