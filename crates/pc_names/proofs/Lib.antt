@@ -1,0 +1,3 @@
+pub mod ChainSteps
+pub mod NumberSteps
+pub mod SlotSteps

@@ -1,0 +1,10 @@
+pub mod Bindings
+pub mod Numbers
+pub mod Chains
+pub mod Table
+pub mod Standing
+pub mod Finding
+pub mod TableLaws
+pub mod StandingLaws
+pub mod FindingLaws
+pub mod StandingChanges
