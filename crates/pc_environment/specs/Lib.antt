@@ -1,0 +1,6 @@
+pub mod Decorating
+pub mod DecoratingLaws
+pub mod Sight
+pub mod SightLaws
+pub mod QuietLaws
+pub mod RowLaws
