@@ -1,0 +1,16 @@
+pub mod Nodes
+pub mod Annotated
+pub mod Found
+pub mod Roles
+pub mod Uses
+pub mod Records
+pub mod Meant
+pub mod Declared
+pub mod FieldTypes
+pub mod TypeAt
+pub mod TypeText
+pub mod Shown
+pub mod ErrorsText
+pub mod DeclsText
+pub mod UsesText
+pub mod ExprText
