@@ -1,15 +1,15 @@
 -- What is declared, node by node.
-use Rattle.std.proofs.Common.{◌≡◌, ℕ, zero, suc, ◌+◌, ◌-◌, ◌<◌, ◌≤◌, ◌⊎◌, inl, inr, Bool, true, false, List, [], ◌∷◌, ◌++◌, length, take, drop, map, refl, ap, sym, ◌∙◌, append_assoc, append-nil, length-append, arith, add-one, get_or}
+use Rattle.std.proofs.Common.{◌≡◌, ℕ, suc, ◌+◌, ◌-◌, ◌<◌, ◌≤◌, ◌⊎◌, inl, inr, Bool, true, false, List, [], ◌∷◌, ◌++◌, length, take, drop, refl, ap, sym, ◌∙◌, append_assoc, append-nil, length-append, arith, add-one, get_or}
 use Rattle.std.proofs.lemmas.List.{drop_all, drop_more}
 use Rattle.std.proofs.Math.Seq.{take-append_seam}
-use Rattle.std.specs.Prelude.{Option, Some, None, if◌then◌else◌}
+use Rattle.std.specs.Prelude.{Option, None, if◌then◌else◌}
 use Rattle.pc_syntax.specs.declared.kind.Kind.{Kind}
 use Rattle.pc_syntax.specs.declared.kind.Kind.TheVariants as kind
 use Rattle.pc_syntax.specs.Plain.{Forest, Nil, Cons, Plain, forest_of, kids_of, count}
 use Rattle.pc_syntax.specs.PartsLaws.{forest_of-kids_of, small-kids, length-kids_of}
 use Rattle.pc_syntax.specs.WellFormed.{IsProper}
 use Rattle.pc_syntax.specs.Sorts.{is_hole}
-use Rattle.pc_scope.specs.Declarations.{Declared, names_at, name_at, names_below, declared_by_node, declared_at}
+use Rattle.pc_scope.specs.Declarations.{Declared, names_at, declared_by_node, declared_at}
 use Rattle.pc_scope.specs.Entries.{above, definition_of, declared_by_name, declared_by, is_declarer, IsSilent, IsSilentBelow}
 use Rattle.pc_scope.specs.Headings.{is_routine_kind}
 

@@ -1,3 +1,8 @@
+mod RegionSteps
+mod SecondKid
+mod SiteSteps
+mod CountingSteps
+mod ByName
 pub mod InOrder
 pub mod Chains
 pub mod Firsts

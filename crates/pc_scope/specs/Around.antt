@@ -5,7 +5,7 @@ use Rattle.std.specs.Str.{bytes_eq}
 use Rattle.pc_syntax.specs.Plain.{Forest, Plain}
 use Rattle.pc_scope.specs.Blocks.{block_kids, kid_count, routines_among, tree_at}
 use Rattle.pc_scope.specs.Declarations.{Declared, declared_at}
-use Rattle.pc_scope.specs.Headings.{Heading, heading_of, is_routine_kind}
+use Rattle.pc_scope.specs.Headings.{heading_of, is_routine_kind}
 use Rattle.pc_scope.specs.Waiting.{counting, parameters_at}
 
 -- the key of a routine or the program, which is its own or that of the nearest around it that has one: the names below the program

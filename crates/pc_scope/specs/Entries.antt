@@ -50,3 +50,8 @@ IsSilent t = (q : List ℕ) → declared_by q t ≡ []
 -- nothing is declared below the node, wherever it stands
 abbrev pub IsSilentBelow : Plain → Type 0
 IsSilentBelow t = (q : List ℕ) → declared_at q 1 t.kids ≡ []
+
+-- whether a node of this kind is a list of parameters
+abbrev pub is_parameters : Kind → Bool
+is_parameters kind.Params = true
+is_parameters k = false

@@ -1,7 +1,7 @@
 -- What an answer of a look-up says.
-use Rattle.std.specs.Prelude.{◌≡◌, ◌∷◌, [], ℕ, List, true, Option, Some}
+use Rattle.std.specs.Prelude.{◌≡◌, ℕ, List, true, Option, Some}
 use Rattle.std.specs.Str.{bytes_eq}
-use Rattle.pc_scope.specs.Declarations.{Declared, Meant, HereAt, LaterAt, RequiredAt, MissingAt}
+use Rattle.pc_scope.specs.Declarations.{Meant, HereAt, LaterAt, RequiredAt, MissingAt}
 use Rattle.pc_scope.specs.Lookup.{Declaration}
 use Rattle.pc_scope.specs.Spelled.{spelling}
 use Rattle.pc_scope.specs.declared.decl.Decl.{Decl}
@@ -17,7 +17,7 @@ meant_by Missing = MissingAt
 
 -- the declaration has this owner and name
 abbrev pub IsDeclared : Decl → Option Declaration → Type 0
-IsDeclared d o = (x : Declaration) × (o ≡ Some x) × (d.owner.items ≡ x.owner) × (d.name ≡ x.declared.name) × (d.place ≡ x.declared.place)
+IsDeclared d o = (x : Declaration) × (o ≡ Some x) × (d.owner ≡ x.owner) × (d.name ≡ x.declared.name) × (d.place ≡ x.declared.place)
 
 -- the answer holds this declaration, or this required name
 abbrev pub Holds : Found → List ℕ → Option Declaration → Type 0

@@ -11,3 +11,5 @@ pub mod Table
 pub mod Stands
 pub mod Spelled
 pub mod FoundAs
+pub mod WaitingIn
+pub mod Sites

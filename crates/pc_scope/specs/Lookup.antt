@@ -1,9 +1,9 @@
 -- What a name means at a place of a program, by the places of declarations (ISO 7185, 6.2.2).
-use Rattle.std.specs.Prelude.{ℕ, Bool, not, ◌&&◌, ◌==◌, if◌then◌else◌, List, [], ◌∷◌, Option, Some, None}
+use Rattle.std.specs.Prelude.{ℕ, not, ◌&&◌, ◌==◌, if◌then◌else◌, List, [], ◌∷◌, Option, Some, None}
 use Rattle.std.specs.Option.{option_or, option_map, option_map_or, option_and_then}
 use Rattle.pc_syntax.specs.Plain.{Plain}
 use Rattle.pc_syntax.specs.Words.{lowered}
-use Rattle.pc_scope.specs.Around.{Owner, Block, program_block, declared_in, first_declared, inner_block}
+use Rattle.pc_scope.specs.Around.{Block, program_block, declared_in, first_declared, inner_block}
 use Rattle.pc_scope.specs.Declarations.{Declared, Meant, HereAt, LaterAt, RequiredAt, MissingAt}
 use Rattle.pc_scope.specs.Places.{is_before, in_definition}
 use Rattle.pc_scope.specs.Required.{is_required}

@@ -1,5 +1,5 @@
 -- When the regions of code stand for the blocks of a tree.
-use Rattle.std.specs.Prelude.{◌≡◌, ℕ, zero, suc, List, [], ◌∷◌, Option, Some, None, slice_get}
+use Rattle.std.specs.Prelude.{◌≡◌, ℕ, zero, suc, List, Option, Some, None, slice_get}
 use Rattle.std.specs.Option.{option_and_then}
 use Rattle.pc_syntax.specs.Plain.{Plain}
 use Rattle.pc_scope.specs.Around.{Block, program_block, inner_block}
@@ -31,6 +31,14 @@ Stands (suc levels) rs r b =
 -- a region stands for a block, on all levels
 abbrev pub StandsForBlock : List Region → ℕ → Block → Type 0
 StandsForBlock rs r b = (levels : ℕ) → Stands levels rs r b
+
+-- what regions stand for, they still stand for
+abbrev pub KeepsBlocks : List Region → List Region → Type 0
+KeepsBlocks old new = (r : ℕ) (b : Block) → StandsForBlock old r b → StandsForBlock new r b
+
+-- the region of the routine with an index
+abbrev pub inner_at : List (Option ℕ) → ℕ → Option ℕ
+inner_at inner i = option_and_then (λ o. o) (slice_get inner i)
 
 -- scopes stand for a tree
 unfoldable pub StandsFor : Scopes → Plain → Type 0

@@ -42,7 +42,7 @@ links_in es = map (λ e. e.link) es
 -- what a declaration stands for, where it is known whether it is that of a constant or type definition
 abbrev pub declared_as : Decl → Bool → Declaration
 declared_as d is_definition =
-    record { declared = record { name = d.name; place = d.place; definition = definition_of is_definition d.place }; owner = d.owner.items }
+    record { declared = record { name = d.name; place = d.place; definition = definition_of is_definition d.place }; owner = d.owner }
 
 -- what entries stand for
 abbrev pub declarations_in : List Entry → List Declaration

@@ -1,10 +1,10 @@
 -- Which heading counts for a routine: its own, or that of the forward routine whose later declaration it is (ISO 7185, 6.6.1).
-use Rattle.std.specs.Prelude.{ℕ, suc, ◌-◌, Bool, if◌then◌else◌, List, [], ◌∷◌, Option, Some, None, take, ◌++◌}
+use Rattle.std.specs.Prelude.{ℕ, suc, ◌-◌, if◌then◌else◌, List, [], ◌∷◌, Option, Some, None, take, ◌++◌}
 use Rattle.std.specs.Option.{option_or, option_map_or}
-use Rattle.pc_syntax.specs.Plain.{Forest, Cons, Plain}
+use Rattle.pc_syntax.specs.Plain.{Forest, Cons}
 use Rattle.pc_scope.specs.Blocks.{tree_at}
 use Rattle.pc_scope.specs.Declarations.{Declared, declared_at}
-use Rattle.pc_scope.specs.Headings.{Heading, heading_of, headings_in, pairs}
+use Rattle.pc_scope.specs.Headings.{Heading, headings_in, pairs}
 use Rattle.pc_syntax.specs.declared.kind.Kind.TheVariants as kind
 
 -- The forward routine that waits for the heading `h`, by its number, behind the routine with number `n` and heading `g`: of forward routines

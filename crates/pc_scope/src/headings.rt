@@ -1,10 +1,11 @@
 //! Headings of routines, and the blocks behind them.
 
-ghost use Rattle.std.specs.Prelude.{◌≡◌, ◌+◌, ◌≤◌, [], IfSome, IsNone};
+ghost use Rattle.std.specs.Prelude.{◌≡◌, ◌+◌, ◌<◌, ◌^◌, ◌≤◌, [], length, IfSome, IsNone};
 ghost use Rattle.pc_syntax.specs.Plain.{Nil, forest_of};
 ghost use Rattle.pc_syntax.specs.Words.{lowered};
 ghost use Rattle.pc_syntax.specs.WellFormed.{size_in, size_of};
 ghost use Rattle.pc_scope.specs.Blocks.{block_kids, kid_count, routines_among};
+ghost use Rattle.pc_scope.specs.Entries.{is_parameters};
 ghost use Rattle.pc_scope.specs.Headings as headings;
 
 use pc_syntax::{Kind, Tree};
@@ -59,9 +60,29 @@ pub fn block_of(tree: &Tree) -> Option<&Tree>
 pub fn routines_in(block: &Tree) -> &[Tree]
     ensures value { forest_of result.now ≡ routines_among block.now.kids }
     ensures smaller { size_in (forest_of result.now) + 1 ≤ size_of block.now }
+    ensures few { length result.now < 2 ^ 32 }
 {
     match block.kid(4) {
         Some(routines) => routines.kid_slice(),
         None => &[],
     }
+}
+
+/// The routines in the block of a routine or program.
+pub fn routines_of(tree: &Tree) -> &[Tree]
+    ensures value { forest_of result.now ≡ routines_among (block_kids tree.now.kids) }
+    ensures smaller { size_in (forest_of result.now) + 1 ≤ size_of tree.now }
+    ensures few { length result.now < 2 ^ 32 }
+{
+    match block_of(tree) {
+        Some(block) => routines_in(block),
+        None => &[],
+    }
+}
+
+/// Whether a node of this kind is a list of parameters.
+pub fn is_parameters(kind: Kind) -> bool
+    ensures { result ≡ is_parameters kind }
+{
+    matches!(kind, Kind::Params)
 }

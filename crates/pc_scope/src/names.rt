@@ -9,7 +9,7 @@ ghost use Rattle.pc_scope.specs.Table.{chain_of, IsLinked, names_in, links_in, d
 use crate::decl::Decl;
 use crate::named::Named;
 use crate::spelling::{is_spelled, lower};
-use pc_syntax::Word;
+use pc_syntax::Key;
 use std::alloc::{AllocError, Global};
 
 /// The first declaration of a name in a block, whether it is that of a constant or type definition, and the entry before it
@@ -113,7 +113,7 @@ impl Names {
     }
 
     /// The first declaration of each name, all with one owner.
-    pub fn of(alloc: Global, owner: &[Word], declared: Vec<Named>) -> Result<Names, AllocError>
+    pub fn of(alloc: Global, owner: &Key, declared: Vec<Named>) -> Result<Names, AllocError>
         ensures { IfOk result (λ names. (n : List ℕ) → first_of n (declarations_in names.entries.items) ≡ first_of n (owned owner.now (all_declared declared.items))) }
     {
         let mut names = Names::new(alloc, declared.len())?;
@@ -124,7 +124,7 @@ impl Names {
     }
 
     /// Adds a declaration, unless its name is there.
-    fn add(&mut self, alloc: Global, owner: &[Word], named: Named) -> Result<(), AllocError>
+    fn add(&mut self, alloc: Global, owner: &Key, named: Named) -> Result<(), AllocError>
         ensures { IfOk result (λ _. (n : List ℕ) → first_of n (declarations_in self.new.entries.items) ≡ option_or (first_of n (declarations_in self.old.entries.items)) (first_of n (owned owner.now (declared_of named ∷ [])))) }
     {
         if self.find(named.name.bytes()).is_some() {
@@ -135,19 +135,8 @@ impl Names {
             place,
             is_definition,
         } = named;
-        let owner = copies(alloc, owner)?;
+        let owner = owner.copy(alloc)?;
         self.push(Decl { owner, name, place }, is_definition)?;
         Ok(())
     }
-}
-
-/// The names again.
-fn copies(alloc: Global, names: &[Word]) -> Result<Vec<Word>, AllocError>
-    ensures { IfOk result (λ all. all.items ≡ names.now) }
-{
-    let mut all = Vec::with_capacity(alloc, names.len())?;
-    for name in names {
-        all.push(Word::new(alloc, name.bytes())?)?;
-    }
-    Ok(all)
 }

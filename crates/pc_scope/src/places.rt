@@ -1,6 +1,7 @@
 //! How two places of a tree stand to each other.
 
 ghost use Rattle.std.specs.Prelude.{◌≡◌};
+ghost use Rattle.std.specs.Str.{bytes_eq};
 ghost use Rattle.pc_scope.specs.Places as places;
 
 /// Whether a place comes before another in the text, or around it.
@@ -27,4 +28,20 @@ pub fn stands_in(place: &[u32], other: &[u32]) -> bool
         return false;
     };
     *i == *j && stands_in(is, js)
+}
+
+/// Whether two places are the same.
+pub fn is_same(place: &[u32], other: &[u32]) -> bool
+    ensures { result ≡ bytes_eq place.now other.now }
+{
+    let mut rest = place;
+    let mut others = other;
+    while let ([i, is @ ..], [j, js @ ..]) = (rest, others) {
+        if *i != *j {
+            return false;
+        }
+        rest = is;
+        others = js;
+    }
+    rest.is_empty() && others.is_empty()
 }

@@ -1,6 +1,6 @@
 //! What the names of a tree mean.
 
-ghost use Rattle.std.specs.Prelude.{◌≡◌, ◌==◌, ℕ, List, Option};
+ghost use Rattle.std.specs.Prelude.{◌≡◌, ◌==◌, ℕ, List, Option, IfOk};
 ghost use Rattle.std.specs.Option.{option_map};
 ghost use Rattle.pc_syntax.specs.Plain.{Plain};
 ghost use Rattle.pc_syntax.specs.Words.{lowered};
@@ -12,12 +12,16 @@ ghost use Rattle.pc_scope.specs.Lookup.{declaration_in, declaration, Declaration
 ghost use Rattle.pc_scope.specs.Stands.{StandsFor, StandsForBlock, Both};
 ghost use Rattle.pc_scope.specs.Table.{declared_as};
 
+use crate::building::add_block;
 use crate::builtin::required;
 use crate::found::Found;
 use crate::names::Entry;
+use crate::owner::Owner;
 use crate::places::{is_before, stands_in};
 use crate::region::Region;
-use pc_syntax::Path;
+use crate::site::Site;
+use pc_syntax::{Path, Tree};
+use std::alloc::{AllocError, Global};
 
 /// The declarations of a tree's blocks.
 #[derive(Drop)]
@@ -27,6 +31,22 @@ pub struct Scopes {
 }
 
 impl Scopes {
+    /// The declarations of a program's blocks. Fails for want of memory only. Work: in the size of the tree, with the paths and
+    /// keys of what is declared.
+    pub fn of(alloc: Global, tree: &Tree) -> Result<Scopes, AllocError>
+        ensures { IfOk result (λ scopes. StandsFor scopes tree.now) }
+    {
+        let mut regions = Vec::new(alloc);
+        let site = Site {
+            owner: Owner::program(alloc),
+            place: Path::of(alloc, &[3])?,
+            number: 3,
+            parameters: Vec::new(alloc),
+        };
+        let root = add_block(alloc, tree, site, &mut regions)?;
+        Ok(Scopes { regions, root })
+    }
+
     /// What a name, spelled in any case, means at a place: the innermost block around the place whose own declarations have
     /// the name decides, wherever in it the declaration stands (ISO 7185, 6.2.2). It takes no memory.
     pub fn lookup<'a>(&'a self, name: &[u8], at: &Path) -> Found<'a>

@@ -1,7 +1,7 @@
-use Rattle.std.proofs.Common.{◌≡◌, ◌+◌, ◌≤◌, Some, None, ap, sym, ◌∙◌, arith}
+use Rattle.std.proofs.Common.{◌+◌, ◌<◌, ◌≤◌, length, Some, None, ap, sym, ◌∙◌, arith}
 use Rattle.std.specs.Option.{option_copied}
 use Rattle.pc_syntax.specs.Plain.{forest_of}
-use Rattle.pc_syntax.specs.PartsLaws.{forest_of-kids_of}
+use Rattle.pc_syntax.specs.PartsLaws.{forest_of-kids_of, small-kids}
 use Rattle.pc_syntax.specs.WellFormed.{size_of}
 use Rattle.pc_scope.proofs.Parts.{routines-by, kid-smaller, below-smaller, none-smaller}
 use Rattle.pc_scope.proofs.headings.routines_in.Goals as goal
@@ -22,3 +22,6 @@ returns-in-None-clause-value c = sym (routines-by c.args.block.now None (ap opti
 
 pub returns-in-None-clause-smaller : goal.returns-in-None-clause-smaller
 returns-in-None-clause-smaller c = none-smaller c.args.block.now
+
+pub returns-in-Some-clause-few : goal.returns-in-Some-clause-few
+returns-in-Some-clause-few c = let few : length c.kid_slice.result.now < 1000000 = rw c.kid_slice.ensures.value (small-kids c.in-Some.routines.now c.kid_slice.ensures.proper) in omega arith

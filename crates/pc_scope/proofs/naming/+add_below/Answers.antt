@@ -1,8 +1,8 @@
-use Rattle.std.proofs.Common.{◌≡◌, ℕ, ◌+◌, ◌<◌, ◌≤◌, length, get_or, arith, sym, ◌∙◌, ap}
-use Rattle.pc_syntax.specs.PartsLaws.{size_of-kid, forest_of-kids_of}
+use Rattle.std.proofs.Common.{◌+◌, ◌≤◌, arith, sym, ◌∙◌, ap}
+use Rattle.pc_syntax.specs.PartsLaws.{size_of-kid}
 use Rattle.pc_syntax.specs.WellFormed.{size_of}
 use Rattle.pc_scope.specs.Headings.{is_routine_kind}
-use Rattle.pc_scope.proofs.InOrder.{below-start, below-more, below-end, node-routine, node-other, kid-below}
+use Rattle.pc_scope.proofs.InOrder.{below-start, below-more, below-end, node-other, kid-below}
 use Rattle.pc_scope.proofs.naming.+add_below.Goals as goal
 
 pub add_below-requires : goal.add_below-requires

@@ -1,5 +1,5 @@
-use Rattle.std.proofs.Common.{◌≡◌, ℕ, ◌+◌, ◌<◌, ◌≤◌, length, get_or, arith, sym, ◌∙◌, ap}
-use Rattle.pc_syntax.specs.Plain.{Plain, kids_of, forest_of}
+use Rattle.std.proofs.Common.{◌+◌, ◌≤◌, arith, sym, ◌∙◌, ap}
+use Rattle.pc_syntax.specs.Plain.{forest_of}
 use Rattle.pc_syntax.specs.PartsLaws.{size_of-kid, forest_of-kids_of}
 use Rattle.pc_syntax.specs.WellFormed.{size_of}
 use Rattle.pc_scope.specs.Declarations.{declared_at}

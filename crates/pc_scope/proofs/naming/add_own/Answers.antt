@@ -1,4 +1,4 @@
-use Rattle.std.proofs.Common.{◌≡◌, ◌++◌, List, IfOk, ap, sym, ◌∙◌, subst}
+use Rattle.std.proofs.Common.{◌≡◌, ◌++◌, List, IfOk, subst}
 use Rattle.pc_scope.specs.Declarations.{Declared}
 use Rattle.pc_scope.specs.Entries.{all_declared}
 use Rattle.pc_scope.proofs.InOrder.{own-none, first-kid, own-definition, own-routine, own-names}

@@ -1,9 +1,9 @@
-use Rattle.std.proofs.Common.{◌≡◌, ℕ, ◌∷◌, [], None, List, ap, sym, ◌∙◌}
+use Rattle.std.proofs.Common.{◌≡◌, ℕ, ◌∷◌, [], List, ap, sym, ◌∙◌}
 use Rattle.std.specs.Option.{option_or}
 use Rattle.pc_syntax.specs.Words.{lowered}
 use Rattle.pc_scope.specs.Entries.{declared_of}
 use Rattle.pc_scope.specs.Lookup.{Declaration}
-use Rattle.pc_scope.specs.Table.{first_of, declarations_in, owned}
+use Rattle.pc_scope.specs.Table.{first_of, declarations_in}
 use Rattle.pc_scope.proofs.Firsts.{known, unknown, first-second, first-append}
 use Rattle.pc_scope.proofs.names.Names.add.Goals as goal
 

@@ -1,5 +1,4 @@
 use Rattle.std.proofs.Common.{ℕ, ◌≡◌, ◌<◌, length, arith, subst, sym, ◌∙◌, ap}
-use Rattle.std.specs.Str.{bytes_eq}
 use Rattle.pc_syntax.specs.Words.{lowered}
 use Rattle.pc_scope.specs.Table.{chain_of, names_in, links_in}
 use Rattle.pc_scope.proofs.Chains.{Walks, walk-start}

@@ -1,5 +1,5 @@
-use Rattle.std.proofs.Common.{◌≡◌, ℕ, Some, None, sym, ap, ◌∙◌}
-use Rattle.std.specs.Prelude.{Option, option_map}
+use Rattle.std.proofs.Common.{None, sym, ap, ◌∙◌}
+use Rattle.std.specs.Prelude.{option_map}
 use Rattle.pc_syntax.specs.Words.{lowered}
 use Rattle.pc_scope.specs.Lookup.{declaration_in}
 use Rattle.pc_scope.specs.Table.{declared_as}

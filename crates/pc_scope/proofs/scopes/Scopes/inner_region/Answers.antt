@@ -1,6 +1,5 @@
-use Rattle.std.proofs.Common.{◌≡◌, Some, None, sym, ap, ◌∙◌}
-use Rattle.std.specs.Prelude.{slice_get, ◌==◌}
-use Rattle.pc_syntax.specs.Words.{lowered}
+use Rattle.std.proofs.Common.{◌≡◌, Some}
+use Rattle.std.specs.Prelude.{slice_get}
 use Rattle.pc_scope.proofs.Regions.{got, got-none, region-of, no-region}
 use Rattle.pc_scope.proofs.scopes.Scopes.inner_region.Goals as goal
 

@@ -1,4 +1,4 @@
-use Rattle.std.proofs.Common.{◌≡◌, ℕ, Bool, Some, None, sym, subst}
+use Rattle.std.proofs.Common.{ℕ, Bool, Some, None, subst}
 use Rattle.std.specs.Prelude.{Option, if◌then◌else◌}
 use Rattle.pc_scope.specs.Around.{inner_block}
 use Rattle.pc_scope.specs.Lookup.{entered}
