@@ -6,7 +6,7 @@ ghost use Rattle.pc_syntax.specs.Words.{lowered};
 ghost use Rattle.pc_scope.specs.Required as required;
 ghost use Rattle.pc_scope.specs.Spelled.{spelling};
 
-use crate::spelling::is_spelled;
+use pc_syntax::is_spelled;
 
 /// A required name.
 #[derive(Clone, Copy, Debug, PartialEq, Eq)]

@@ -8,8 +8,7 @@ ghost use Rattle.pc_scope.specs.Table.{chain_of, IsLinked, names_in, links_in, d
 
 use crate::decl::Decl;
 use crate::named::Named;
-use crate::spelling::{is_spelled, lower};
-use pc_syntax::Key;
+use pc_syntax::{Key, is_spelled, lower};
 use std::alloc::{AllocError, Global};
 
 /// The first declaration of a name in a block, whether it is that of a constant or type definition, and the entry before it
