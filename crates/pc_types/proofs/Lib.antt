@@ -7,3 +7,4 @@ pub mod TargetsLaws
 pub mod FieldsLaws
 pub mod OpeningLaws
 pub mod ExpandLaws
+pub mod PartsLaws

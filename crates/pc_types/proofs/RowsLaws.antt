@@ -60,10 +60,10 @@ length-shapes_from owners places known (r ∷ rows) =
     let s = row_shape owners places known r in
     omega (arith, length-shapes_from owners places (known ++ s ∷ []) rows, length-append known (s ∷ []))
 
-none_is_some : {A : Type 0} {a : A} → None ≡ Some a → ⊥
+pub none_is_some : {A : Type 0} {a : A} → None ≡ Some a → ⊥
 none_is_some h = cc
 
-some_is : {A : Type 0} {a b : A} → Some a ≡ Some b → a ≡ b
+pub some_is : {A : Type 0} {a b : A} → Some a ≡ Some b → a ≡ b
 some_is h = cc
 
 -- what stands before a row: its parts, of which its shape is made
@@ -95,24 +95,28 @@ before-row owners places known (q ∷ rows) (suc i) r are is =
 -- the outline of a form tells of its shape
 pub outline_of-tells : (table : Table) (x : Operand) (d : Definition) (f : Form) → shape_at table x ≡ formed (map place_of table.domains) table.shapes d f →
     IsOutline table x (outline_of f) (formed (map place_of table.domains) table.shapes d f)
-outline_of-tells table x d form.Integer at = record { number = refl; defined = refl; ordinal = refl; subrange = refl; set = refl; pointer = refl; array = refl; fields = refl; packed = refl; host = at; low = refl; high = refl; base = refl; packing = refl; index = refl; element = refl; text = refl; domain = refl }
-outline_of-tells table x d form.Boolean at = record { number = refl; defined = refl; ordinal = refl; subrange = refl; set = refl; pointer = refl; array = refl; fields = refl; packed = refl; host = at; low = refl; high = refl; base = refl; packing = refl; index = refl; element = refl; text = refl; domain = refl }
-outline_of-tells table x d form.Char at = record { number = refl; defined = refl; ordinal = refl; subrange = refl; set = refl; pointer = refl; array = refl; fields = refl; packed = refl; host = at; low = refl; high = refl; base = refl; packing = refl; index = refl; element = refl; text = refl; domain = refl }
-outline_of-tells table x d form.Nil at = record { number = refl; defined = refl; ordinal = refl; subrange = refl; set = refl; pointer = refl; array = refl; fields = refl; packed = refl; host = at; low = refl; high = refl; base = refl; packing = refl; index = refl; element = refl; text = refl; domain = refl }
-outline_of-tells table x d (form.Named ns) at = record { number = refl; defined = refl; ordinal = refl; subrange = refl; set = refl; pointer = refl; array = refl; fields = refl; packed = refl; host = at; low = refl; high = refl; base = refl; packing = refl; index = refl; element = refl; text = refl; domain = refl }
-outline_of-tells table x d (form.Subrange h a b) at = record { number = refl; defined = refl; ordinal = refl; subrange = refl; set = refl; pointer = refl; array = refl; fields = refl; packed = refl; host = refl; low = refl; high = refl; base = refl; packing = refl; index = refl; element = refl; text = refl; domain = refl }
-outline_of-tells table x d (form.Array p i e) at = record { number = refl; defined = refl; ordinal = refl; subrange = refl; set = refl; pointer = refl; array = refl; fields = refl; packed = refl; host = at; low = refl; high = refl; base = refl; packing = refl; index = refl; element = refl; text = refl; domain = refl }
-outline_of-tells table x d (form.Record p fs) at = record { number = refl; defined = refl; ordinal = refl; subrange = refl; set = refl; pointer = refl; array = refl; fields = refl; packed = refl; host = at; low = refl; high = refl; base = refl; packing = refl; index = refl; element = refl; text = refl; domain = refl }
-outline_of-tells table x d (form.Set p b) at = record { number = refl; defined = refl; ordinal = refl; subrange = refl; set = refl; pointer = refl; array = refl; fields = refl; packed = refl; host = at; low = refl; high = refl; base = refl; packing = refl; index = refl; element = refl; text = refl; domain = refl }
-outline_of-tells table x d (form.Members None) at = record { number = refl; defined = refl; ordinal = refl; subrange = refl; set = refl; pointer = refl; array = refl; fields = refl; packed = refl; host = at; low = refl; high = refl; base = refl; packing = refl; index = refl; element = refl; text = refl; domain = refl }
-outline_of-tells table x d (form.Members (Some b)) at = record { number = refl; defined = refl; ordinal = refl; subrange = refl; set = refl; pointer = refl; array = refl; fields = refl; packed = refl; host = at; low = refl; high = refl; base = refl; packing = refl; index = refl; element = refl; text = refl; domain = refl }
-outline_of-tells table x d (form.Text n) at = record { number = refl; defined = refl; ordinal = refl; subrange = refl; set = refl; pointer = refl; array = refl; fields = refl; packed = refl; host = at; low = refl; high = refl; base = refl; packing = refl; index = refl; element = refl; text = refl; domain = refl }
-outline_of-tells table x d (form.Pointer j) at = record { number = refl; defined = refl; ordinal = refl; subrange = refl; set = refl; pointer = refl; array = refl; fields = refl; packed = refl; host = at; low = refl; high = refl; base = refl; packing = refl; index = refl; element = refl; text = refl; domain = refl }
+outline_of-tells table x d form.Integer at = record { number = refl; defined = refl; ordinal = refl; subrange = refl; set = refl; constructed = refl; pointer = refl; array = refl; fields = refl; packed = refl; host = at; low = refl; high = refl; base = refl; packing = refl; index = refl; element = refl; text = refl; domain = refl }
+outline_of-tells table x d form.Boolean at = record { number = refl; defined = refl; ordinal = refl; subrange = refl; set = refl; constructed = refl; pointer = refl; array = refl; fields = refl; packed = refl; host = at; low = refl; high = refl; base = refl; packing = refl; index = refl; element = refl; text = refl; domain = refl }
+outline_of-tells table x d form.Char at = record { number = refl; defined = refl; ordinal = refl; subrange = refl; set = refl; constructed = refl; pointer = refl; array = refl; fields = refl; packed = refl; host = at; low = refl; high = refl; base = refl; packing = refl; index = refl; element = refl; text = refl; domain = refl }
+outline_of-tells table x d form.Nil at = record { number = refl; defined = refl; ordinal = refl; subrange = refl; set = refl; constructed = refl; pointer = refl; array = refl; fields = refl; packed = refl; host = at; low = refl; high = refl; base = refl; packing = refl; index = refl; element = refl; text = refl; domain = refl }
+outline_of-tells table x d (form.Named ns) at = record { number = refl; defined = refl; ordinal = refl; subrange = refl; set = refl; constructed = refl; pointer = refl; array = refl; fields = refl; packed = refl; host = at; low = refl; high = refl; base = refl; packing = refl; index = refl; element = refl; text = refl; domain = refl }
+outline_of-tells table x d (form.Subrange h a b) at = record { number = refl; defined = refl; ordinal = refl; subrange = refl; set = refl; constructed = refl; pointer = refl; array = refl; fields = refl; packed = refl; host = refl; low = refl; high = refl; base = refl; packing = refl; index = refl; element = refl; text = refl; domain = refl }
+outline_of-tells table x d (form.Array p i e) at = record { number = refl; defined = refl; ordinal = refl; subrange = refl; set = refl; constructed = refl; pointer = refl; array = refl; fields = refl; packed = refl; host = at; low = refl; high = refl; base = refl; packing = refl; index = refl; element = refl; text = refl; domain = refl }
+outline_of-tells table x d (form.Record p fs) at = record { number = refl; defined = refl; ordinal = refl; subrange = refl; set = refl; constructed = refl; pointer = refl; array = refl; fields = refl; packed = refl; host = at; low = refl; high = refl; base = refl; packing = refl; index = refl; element = refl; text = refl; domain = refl }
+outline_of-tells table x d (form.Set p b) at = record { number = refl; defined = refl; ordinal = refl; subrange = refl; set = refl; constructed = refl; pointer = refl; array = refl; fields = refl; packed = refl; host = at; low = refl; high = refl; base = refl; packing = refl; index = refl; element = refl; text = refl; domain = refl }
+outline_of-tells table x d (form.Members None) at = record { number = refl; defined = refl; ordinal = refl; subrange = refl; set = refl; constructed = refl; pointer = refl; array = refl; fields = refl; packed = refl; host = at; low = refl; high = refl; base = refl; packing = refl; index = refl; element = refl; text = refl; domain = refl }
+outline_of-tells table x d (form.Members (Some b)) at = record { number = refl; defined = refl; ordinal = refl; subrange = refl; set = refl; constructed = refl; pointer = refl; array = refl; fields = refl; packed = refl; host = at; low = refl; high = refl; base = refl; packing = refl; index = refl; element = refl; text = refl; domain = refl }
+outline_of-tells table x d (form.Text n) at = record { number = refl; defined = refl; ordinal = refl; subrange = refl; set = refl; constructed = refl; pointer = refl; array = refl; fields = refl; packed = refl; host = at; low = refl; high = refl; base = refl; packing = refl; index = refl; element = refl; text = refl; domain = refl }
+outline_of-tells table x d (form.Pointer j) at = record { number = refl; defined = refl; ordinal = refl; subrange = refl; set = refl; constructed = refl; pointer = refl; array = refl; fields = refl; packed = refl; host = at; low = refl; high = refl; base = refl; packing = refl; index = refl; element = refl; text = refl; domain = refl }
 
 -- the places of the domains
 pub places-domains : (owners : List Owner) (shapes : List Shape) (domains : List DomainRow) → map place_of (map (row_domain owners shapes) domains) ≡ map (row_place owners) domains
 places-domains owners shapes [] = refl
 places-domains owners shapes (d ∷ domains) = ap (λ ds. row_place owners d ∷ ds) (places-domains owners shapes domains)
+
+-- a row that is found is among the rows
+pub slice_get_below : {X : Type 0} (xs : List X) (i : ℕ) (x : X) → slice_get xs i ≡ Some x → i < length xs
+slice_get_below xs i x h = elim (slice_get_cases xs i).1 [ inl w ↦ w.1 | inr w ↦ absurd (none_is_some (sym w.1 ∙ h)) ]
 
 -- what a row says of its number
 pub stands-row : (k : Kept) (i : TypeId) (r : Row) → IsInOrder k → slice_get k.rows i.0 ≡ Some r → StandsFor (seen k) i r
@@ -126,6 +130,7 @@ stands-row k i r h is =
     let all : row_shape (kept_owners k) (kept_places k) (kept_shapes k) r ≡ row_shape (kept_owners k) (kept_places k) b.before r =
     ap (λ (v : List Shape). row_shape (kept_owners k) (kept_places k) v r) b.whole ∙ grown in
     record {
+      there = omega (arith, slice_get_below k.rows i.0 r is, length-shapes_from (kept_owners k) (kept_places k) [] k.rows);
       shape = b.at ∙ sym all ∙ ap (λ (ps : List Place). row_shape (kept_owners k) ps (kept_shapes k) r) (sym (places-domains (kept_owners k) (kept_shapes k) k.domains));
       cells = b.row.cells ∙ ap (λ t. min (cells t) 1000001) (sym b.at);
       levels = b.row.levels ∙ ap (λ t. min (levels t) 257) (sym b.at);

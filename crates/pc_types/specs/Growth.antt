@@ -32,10 +32,6 @@ pub record Retargets (old new : Table) (i : ℕ) (t : Option Shape) : Type 0 whe
   pub owners : new.owners ≡ old.owners
   pub domains : new.domains ≡ retargeted old.domains i t
 
--- the table with nothing in it
-abbrev pub nothing : Table
-nothing = record { shapes = []; owners = []; domains = [] }
-
 -- the table of a program that has no types of its own
 abbrev pub opening : Table
 opening = record { shapes = IntegerType ∷ BooleanType ∷ CharType ∷ NilType ∷ []; owners = nobody ∷ []; domains = [] }

@@ -1,13 +1,14 @@
 -- What the outline of a type tells of its shape.
-use Rattle.std.specs.Prelude.{◌≡◌, ℕ, Bool, true, false, not, if◌then◌else◌, Option, Some, None, get_or, map, option_map}
+use Rattle.std.specs.Prelude.{◌≡◌, ℕ, ◌<◌, Bool, true, false, not, if◌then◌else◌, Option, Some, None, get_or, map, option_map}
 use Rattle.pc_types.specs.Shapes.{Shape, TextType, EnumeratedType, SubrangeType, ArrayType, RecordType, SetType, PointerType}
 use Rattle.pc_types.specs.Sameness.{required_number}
-use Rattle.pc_types.specs.TypeClasses.{is_ordinal, is_set, is_pointer, is_packed, host, low, high, base_of}
+use Rattle.pc_types.specs.TypeClasses.{is_ordinal, is_set, is_constructed, is_pointer, is_packed, host, low, high, base_of}
 use Rattle.pc_types.specs.Compatibility.{compatible_ordinals}
 use Rattle.pc_types.specs.Table.{Table, Place, place_of, nowhere, numbered, shape_at}
 use Rattle.pc_types.specs.declared.operand.Operand.{Operand}
 use Rattle.pc_types.specs.declared.operand.Outline.{Outline}
-use Rattle.pc_types.specs.Outlines.{outline_number, outline_is_defined, outline_is_ordinal, outline_is_subrange, outline_is_set, outline_is_pointer, outline_is_array, outline_is_record, outline_is_packed, outline_host, outline_low, outline_high, outline_base, outline_packing, outline_index, outline_element, outline_text, outline_domain}
+use Rattle.pc_types.specs.declared.operand.Outline.TheVariants as outline
+use Rattle.pc_types.specs.Outlines.{outline_number, outline_is_defined, outline_is_ordinal, outline_is_subrange, outline_is_set, outline_is_constructed, outline_is_pointer, outline_is_array, outline_is_record, outline_is_packed, outline_host, outline_low, outline_high, outline_base, outline_packing, outline_index, outline_element, outline_text, outline_domain}
 
 -- whether a denoter defines the type
 abbrev pub is_defined : Shape → Bool
@@ -74,6 +75,7 @@ pub record IsOutline (table : Table) (x : Operand) (o : Outline) (t : Shape) : T
   pub ordinal : outline_is_ordinal o ≡ is_ordinal t
   pub subrange : outline_is_subrange o ≡ is_subrange t
   pub set : outline_is_set o ≡ is_set t
+  pub constructed : outline_is_constructed o ≡ is_constructed t
   pub pointer : outline_is_pointer o ≡ is_pointer t
   pub array : outline_is_array o ≡ is_array t
   pub fields : outline_is_record o ≡ is_record t
@@ -87,3 +89,11 @@ pub record IsOutline (table : Table) (x : Operand) (o : Outline) (t : Shape) : T
   pub element : option_map (numbered table.shapes) (outline_element o) ≡ element_of t
   pub text : outline_text o ≡ text_size t
   pub domain : option_map (λ d. get_or (map place_of table.domains) d.0 nowhere) (outline_domain o) ≡ domain_place t
+
+-- the parts of an outline are among so many types
+abbrev pub OutlineThere : ℕ → Outline → Type 0
+OutlineThere types (outline.Subrange h a b) = h.0 < types
+OutlineThere types (outline.Array p i e) = (i.0 < types) × (e.0 < types)
+OutlineThere types (outline.Set p b) = b.0 < types
+OutlineThere types (outline.Members b) = b.0 < types
+OutlineThere types _ = Unit {0}

@@ -62,6 +62,11 @@ outline_is_set (outline.Members b) = true
 outline_is_set (outline.Set p b) = true
 outline_is_set _ = false
 
+abbrev pub outline_is_constructed : Outline → Bool
+outline_is_constructed outline.NoMembers = true
+outline_is_constructed (outline.Members b) = true
+outline_is_constructed _ = false
+
 abbrev pub outline_is_pointer : Outline → Bool
 outline_is_pointer outline.Nil = true
 outline_is_pointer (outline.Pointer d) = true

@@ -75,13 +75,27 @@ kept_shapes k = shapes_from (kept_owners k) (kept_places k) [] k.rows
 unfoldable pub seen : Kept → Table
 seen k = record { shapes = kept_shapes k; owners = kept_owners k; domains = map (row_domain (kept_owners k) (kept_shapes k)) k.domains }
 
+-- the first rows are the required types: integer, Boolean, char, and that of `nil`
+abbrev pub BeginRequired : List Row → Type 0
+BeginRequired (a ∷ b ∷ c ∷ d ∷ rows) = (a.form ≡ form.Integer) × (b.form ≡ form.Boolean) × (c.form ≡ form.Char) × (d.form ≡ form.Nil)
+BeginRequired _ = ⊥
+
+-- the row of a required type of this form
+pub record IsRequiredRow (f : Form) (r : Row) : Type 0 where
+  pub is : r.form ≡ f
+  pub owner : r.definition.owner.0 ≡ 0
+  pub cells : r.cells ≡ 1
+  pub levels : r.levels ≡ 1
+
 -- what is kept is in order
 pub record IsInOrder (k : Kept) : Type 0 where
   pub rows_are : AreRows (kept_owners k) (kept_places k) [] k.rows
   pub domains_are : AreDomainRows (length k.owners) (length k.rows) k.domains
+  pub begins : BeginRequired k.rows
 
 -- what the row at a number says of the table
 pub record StandsFor (table : Table) (i : TypeId) (r : Row) : Type 0 where
+  pub there : i.0 < length table.shapes
   pub shape : numbered table.shapes i ≡ shape_in table r.definition r.form
   pub cells : r.cells ≡ min (cells (numbered table.shapes i)) 1000001
   pub levels : r.levels ≡ min (levels (numbered table.shapes i)) 257

@@ -1,5 +1,5 @@
 -- Types by their numbers, as callers see them.
-use Rattle.std.specs.Prelude.{ℕ, ◌<◌, List, [], ◌∷◌, Some, None, get_or, length, map}
+use Rattle.std.specs.Prelude.{◌≡◌, ℕ, ◌<◌, ◌≤◌, List, [], ◌∷◌, Some, None, get_or, length, map}
 use Rattle.pc_types.specs.Shapes.{Owner, Keyed, Definition, Shape, IntegerType, BooleanType, CharType, NilType, NoMembers, MembersType, TextType, EnumeratedType, SubrangeType, ArrayType, RecordType, SetType, PointerType, Fields, LastField, FieldOf, Domain}
 use Rattle.pc_types.specs.declared.form.TypeId.{TypeId}
 use Rattle.pc_types.specs.declared.form.DomainId.{DomainId}
@@ -102,3 +102,11 @@ abbrev pub IsThere : Table → Operand → Type 0
 IsThere table (operand.Id i) = i.0 < length table.shapes
 IsThere table (operand.Members i) = i.0 < length table.shapes
 IsThere table _ = Unit {0}
+
+-- the required types stand first: integer, Boolean, char, and that of `nil`
+pub record HasRequired (table : Table) : Type 0 where
+  pub integer : get_or table.shapes 0 NoMembers ≡ IntegerType
+  pub boolean : get_or table.shapes 1 NoMembers ≡ BooleanType
+  pub char : get_or table.shapes 2 NoMembers ≡ CharType
+  pub nil : get_or table.shapes 3 NoMembers ≡ NilType
+  pub there : 4 ≤ length table.shapes

@@ -22,6 +22,12 @@ is_set (MembersType b) = true
 is_set (SetType d p b) = true
 is_set _ = false
 
+-- the type of a set constructor, which no denoter makes
+abbrev pub is_constructed : Shape → Bool
+is_constructed NoMembers = true
+is_constructed (MembersType b) = true
+is_constructed _ = false
+
 abbrev pub is_pointer : Shape → Bool
 is_pointer NilType = true
 is_pointer (PointerType d o n) = true

@@ -1,11 +1,11 @@
 //! Classes of types: ordinal types, sets, pointers, arrays, records.
 
-ghost use Rattle.std.specs.Prelude.{◌≡◌, option_map};
+ghost use Rattle.std.specs.Prelude.{◌≡◌, ◌<◌, option_map, length, IfSome};
 ghost use Rattle.pc_types.specs.Sameness.{required_number};
 ghost use Rattle.pc_types.specs.Compatibility.{is_nil};
-ghost use Rattle.pc_types.specs.TypeClasses.{is_ordinal, is_set, is_pointer, is_integer, is_boolean, is_char, is_packed, host, low, high, base_of};
+ghost use Rattle.pc_types.specs.TypeClasses.{is_ordinal, is_set, is_constructed, is_pointer, is_integer, is_boolean, is_char, is_packed, host, low, high, base_of};
 ghost use Rattle.pc_types.specs.Outlined.{is_array, is_record, index_of, element_of, domain_place};
-ghost use Rattle.pc_types.specs.Table.{shape_at, numbered, place_at};
+ghost use Rattle.pc_types.specs.Table.{shape_at, numbered, place_at, IsThere};
 ghost use Rattle.pc_types.specs.Rows.{seen};
 
 use crate::form::{DomainId, TypeId};
@@ -25,6 +25,13 @@ impl Types {
         ensures { result ≡ is_set (shape_at (seen self.now) operand) }
     {
         self.outline(operand).is_set()
+    }
+
+    /// Whether the type is that of a set constructor, `[]` too.
+    pub fn is_constructed(&self, operand: Operand) -> bool
+        ensures { result ≡ is_constructed (shape_at (seen self.now) operand) }
+    {
+        self.outline(operand).is_constructed()
     }
 
     /// Whether the type is a pointer type, or that of `nil`.
@@ -55,9 +62,18 @@ impl Types {
 
     /// The host of a subrange, and else the type itself.
     pub fn host(&self, operand: Operand) -> Operand
-        ensures { shape_at (seen self.now) result ≡ host (shape_at (seen self.now) operand) }
+        ensures shape { shape_at (seen self.now) result ≡ host (shape_at (seen self.now) operand) }
+        ensures there { IsThere (seen self.now) operand → IsThere (seen self.now) result }
     {
         self.outline(operand).host_of(operand)
+    }
+
+    /// The host of a subrange of the table, and else the type itself.
+    pub fn host_id(&self, id: TypeId) -> TypeId
+        ensures shape { numbered (seen self.now).shapes result ≡ host (numbered (seen self.now).shapes id) }
+        ensures there { id.0 < length (seen self.now).shapes → result.0 < length (seen self.now).shapes }
+    {
+        self.outline(Operand::Id(id)).host_id(id)
     }
 
     /// Which required type the host is: integer 1, Boolean 2, char 3, the type of `nil` 4, and 0 for all others.
@@ -111,21 +127,24 @@ impl Types {
 
     /// The base of a set, if it is one and not `[]`.
     pub fn base(&self, operand: Operand) -> Option<TypeId>
-        ensures { option_map (numbered (seen self.now).shapes) result ≡ base_of (shape_at (seen self.now) operand) }
+        ensures shape { option_map (numbered (seen self.now).shapes) result ≡ base_of (shape_at (seen self.now) operand) }
+        ensures there { IsThere (seen self.now) operand → IfSome result (λ id. id.0 < length (seen self.now).shapes) }
     {
         self.outline(operand).base()
     }
 
     /// The index type, if it is an array.
     pub fn index(&self, operand: Operand) -> Option<TypeId>
-        ensures { option_map (numbered (seen self.now).shapes) result ≡ index_of (shape_at (seen self.now) operand) }
+        ensures shape { option_map (numbered (seen self.now).shapes) result ≡ index_of (shape_at (seen self.now) operand) }
+        ensures there { IsThere (seen self.now) operand → IfSome result (λ id. id.0 < length (seen self.now).shapes) }
     {
         self.outline(operand).index()
     }
 
     /// The type of the elements, if it is an array.
     pub fn element(&self, operand: Operand) -> Option<TypeId>
-        ensures { option_map (numbered (seen self.now).shapes) result ≡ element_of (shape_at (seen self.now) operand) }
+        ensures shape { option_map (numbered (seen self.now).shapes) result ≡ element_of (shape_at (seen self.now) operand) }
+        ensures there { IsThere (seen self.now) operand → IfSome result (λ id. id.0 < length (seen self.now).shapes) }
     {
         self.outline(operand).element()
     }

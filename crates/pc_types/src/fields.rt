@@ -1,10 +1,10 @@
 //! Fields of records (ISO 7185, 6.4.3.3).
 
-ghost use Rattle.std.specs.Prelude.{◌≡◌, option_map};
+ghost use Rattle.std.specs.Prelude.{◌≡◌, ◌<◌, option_map, length, IfSome};
 ghost use Rattle.pc_syntax.specs.Words.{lowered};
 ghost use Rattle.pc_types.specs.Domains.{field_in};
 ghost use Rattle.pc_types.specs.TypeClasses.{fields_of};
-ghost use Rattle.pc_types.specs.Table.{shape_at, numbered, fields_from};
+ghost use Rattle.pc_types.specs.Table.{shape_at, numbered, fields_from, FieldsThere};
 ghost use Rattle.pc_types.specs.Rows.{seen, form_fields, find_field};
 
 use crate::form::{Form, TypeId};
@@ -16,14 +16,16 @@ impl Types {
     /// The type of the field with this name, in any case, if the type is a record type that has it. Work: the number of fields.
     #[tactic(auto, using(crate::proofs::FieldsLaws::fields))]
     pub fn field(&self, operand: Operand, name: &[u8]) -> Option<TypeId>
-        ensures { option_map (numbered (seen self.now).shapes) result ≡ field_in (fields_of (shape_at (seen self.now) operand)) (lowered name.now) }
+        ensures shape { option_map (numbered (seen self.now).shapes) result ≡ field_in (fields_of (shape_at (seen self.now) operand)) (lowered name.now) }
+        ensures there { IfSome result (λ id. id.0 < length (seen self.now).shapes) }
     {
         find(self.fields(operand), name)
     }
 
     /// The fields in order, each by its name in small letters; none if the type is no record type.
     pub fn fields(&self, operand: Operand) -> &[(Word, TypeId)]
-        ensures { fields_from (seen self.now).shapes result.now ≡ fields_of (shape_at (seen self.now) operand) }
+        ensures fields { fields_from (seen self.now).shapes result.now ≡ fields_of (shape_at (seen self.now) operand) }
+        ensures there { FieldsThere (length (seen self.now).shapes) result.now }
     {
         match operand {
             Operand::Id(id) => self.fields_at(id),
@@ -33,7 +35,8 @@ impl Types {
 
     #[tactic(auto, using(crate::proofs::FieldsLaws::fields))]
     fn fields_at(&self, id: TypeId) -> &[(Word, TypeId)]
-        ensures { fields_from (seen self.now).shapes result.now ≡ fields_of (numbered (seen self.now).shapes id) }
+        ensures fields { fields_from (seen self.now).shapes result.now ≡ fields_of (numbered (seen self.now).shapes id) }
+        ensures there { FieldsThere (length (seen self.now).shapes) result.now }
     {
         match self.row(id) {
             Some(row) => fields_in(&row.form),

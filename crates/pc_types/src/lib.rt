@@ -11,6 +11,7 @@ mod opening;
 mod operand;
 mod outline;
 mod owner;
+mod required;
 mod sameness;
 mod sizes;
 mod strings;

@@ -1,12 +1,12 @@
 //! The table of a program that has no types of its own.
 
 ghost use Rattle.std.specs.Prelude.{◌≡◌, IfOk};
-ghost use Rattle.pc_types.specs.Rows.{seen};
-ghost use Rattle.pc_types.specs.Growth.{nothing, opening};
+ghost use Rattle.pc_types.specs.Rows.{seen, IsRequiredRow};
+ghost use Rattle.pc_types.specs.Growth.{opening};
 
 use crate::form::{Definition, Form, OwnerId};
 use crate::owner::Owner;
-use crate::types::Types;
+use crate::types::{Row, Types};
 use pc_syntax::{Key, Path, Word};
 use std::alloc::{AllocError, Global};
 
@@ -16,35 +16,34 @@ impl Types {
     pub fn new(alloc: Global) -> Result<Types, AllocError>
         ensures { IfOk result (λ types. seen types ≡ opening) }
     {
-        let mut types = Types::nothing(alloc);
-        types.add_owner(Owner::Keyed(Key::root(alloc)))?;
-        types.add(Form::Integer, required(alloc)?)?;
-        types.add(Form::Boolean, required(alloc)?)?;
-        types.add(Form::Char, required(alloc)?)?;
-        types.add(Form::Nil, required(alloc)?)?;
-        Ok(types)
-    }
-
-    #[tactic(auto, unfolding(crate::specs::Rows::seen))]
-    fn nothing(alloc: Global) -> Types
-        ensures { seen result ≡ nothing }
-    {
-        Types {
-            rows: Vec::new(alloc),
-            owners: Vec::new(alloc),
+        let mut rows = Vec::new(alloc);
+        rows.push(required(alloc, Form::Integer)?)?;
+        rows.push(required(alloc, Form::Boolean)?)?;
+        rows.push(required(alloc, Form::Char)?)?;
+        rows.push(required(alloc, Form::Nil)?)?;
+        let mut owners = Vec::new(alloc);
+        owners.push(Owner::Keyed(Key::root(alloc)))?;
+        Ok(Types {
+            rows,
+            owners,
             domains: Vec::new(alloc),
-        }
+        })
     }
 }
 
-/// What stands for the definition of a required type, which has none.
-fn required(alloc: Global) -> Result<Definition, AllocError>
-    ensures { IfOk result (λ definition. definition.owner.0 ≡ 0) }
+/// The row of a required type. It has no definition: the program stands for it.
+fn required(alloc: Global, form: Form) -> Result<Row, AllocError>
+    ensures { IfOk result (λ row. IsRequiredRow form row) }
 {
-    Ok(Definition {
-        owner: OwnerId::PROGRAM,
-        name: Word::new(alloc, b"")?,
-        number: 0,
-        inside: Path::root(alloc),
+    Ok(Row {
+        form,
+        definition: Definition {
+            owner: OwnerId::PROGRAM,
+            name: Word::new(alloc, b"")?,
+            number: 0,
+            inside: Path::root(alloc),
+        },
+        cells: 1,
+        levels: 1,
     })
 }

@@ -1,7 +1,8 @@
 //! Tests of outlines.
 
 ghost use Rattle.std.specs.Prelude.{◌≡◌, ◌-ℤ◌, length, pos};
-ghost use Rattle.pc_types.specs.Outlines.{outline_of, outline_number, outline_is_defined, outline_is_ordinal, outline_is_subrange, outline_is_set, outline_is_pointer, outline_is_array, outline_is_record, outline_is_packed, outline_host, outline_low, outline_high, outline_base, outline_packing, outline_index, outline_element, outline_text, outline_domain};
+ghost use Rattle.pc_types.specs.Outlines.{outline_of, outline_number, outline_is_defined, outline_is_ordinal, outline_is_subrange, outline_is_set, outline_is_constructed, outline_is_pointer, outline_is_array, outline_is_record, outline_is_packed, outline_host, outline_low, outline_high, outline_base, outline_packing, outline_index, outline_element, outline_text, outline_domain};
+ghost use Rattle.pc_types.specs.declared.operand.Operand.TheVariants as operand;
 
 use crate::form::{DomainId, Form, TypeId};
 use crate::operand::{Operand, Outline};
@@ -90,6 +91,17 @@ impl Outline {
         }
     }
 
+    /// Whether it is that of a set constructor.
+    pub(crate) fn is_constructed(self) -> bool
+        ensures { result ≡ outline_is_constructed self }
+    {
+        match self {
+            Outline::NoMembers => true,
+            Outline::Members(_) => true,
+            _ => false,
+        }
+    }
+
     pub(crate) fn is_pointer(self) -> bool
         ensures { result ≡ outline_is_pointer self }
     {
@@ -129,6 +141,16 @@ impl Outline {
         match self {
             Outline::Subrange(host, _, _) => Operand::Id(host),
             _ => operand,
+        }
+    }
+
+    /// The same, where it is a type of the table.
+    pub(crate) fn host_id(self, id: TypeId) -> TypeId
+        ensures { operand.Id result ≡ outline_host (operand.Id id) self }
+    {
+        match self {
+            Outline::Subrange(host, _, _) => host,
+            _ => id,
         }
     }
 

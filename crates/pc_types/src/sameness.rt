@@ -69,8 +69,9 @@ impl Types {
             && self.same_owners(one.owner, other.owner)
     }
 
+    /// Whether both numbers are those of one routine: one key, or one place where there is no key.
     #[tactic(auto, using(crate::proofs::OwnersLaws::owners))]
-    fn same_owners(&self, a: OwnerId, b: OwnerId) -> bool
+    pub fn same_owners(&self, a: OwnerId, b: OwnerId) -> bool
         ensures { result ≡ same_owner (get_or (seen self.now).owners a.0 nobody) (get_or (seen self.now).owners b.0 nobody) }
     {
         if a.0 == b.0 {

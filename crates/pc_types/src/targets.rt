@@ -1,6 +1,6 @@
 //! Domains of pointer types and their types.
 
-ghost use Rattle.std.specs.Prelude.{◌≡◌, ◌<◌, length, option_map, get_or};
+ghost use Rattle.std.specs.Prelude.{◌≡◌, ◌<◌, length, option_map, get_or, IfSome};
 ghost use Rattle.pc_types.specs.Table.{numbered, domain_at};
 ghost use Rattle.pc_types.specs.Rows.{seen, TargetThere};
 ghost use Rattle.pc_types.specs.Growth.{Retargets};
@@ -12,7 +12,8 @@ use sqlite_items::at;
 impl Types {
     /// The type of the domain, where it is known and has neither an error nor a hole. There is none for a number that is not there.
     pub fn domain(&self, id: DomainId) -> Option<TypeId>
-        ensures { option_map (numbered (seen self.now).shapes) result ≡ (domain_at (seen self.now) id).shape }
+        ensures shape { option_map (numbered (seen self.now).shapes) result ≡ (domain_at (seen self.now) id).shape }
+        ensures there { IfSome result (λ id. id.0 < length (seen self.now).shapes) }
     {
         match at(&self.domains, id.0 as usize) {
             Some(row) => row.of,

@@ -1,10 +1,10 @@
 //! The types of a program, each by its number.
 
-ghost use Rattle.std.specs.Prelude.{◌≡◌, MatchOption, get_or};
+ghost use Rattle.std.specs.Prelude.{◌≡◌, MatchOption, get_or, length};
 ghost use Rattle.pc_types.specs.Shapes.{NoMembers};
 ghost use Rattle.pc_types.specs.Rows.{seen, seen_owner, row_place, StandsFor};
-ghost use Rattle.pc_types.specs.Table.{shape_at, numbered, nobody, nowhere, place_at};
-ghost use Rattle.pc_types.specs.Outlined.{IsOutline};
+ghost use Rattle.pc_types.specs.Table.{shape_at, numbered, nobody, nowhere, place_at, IsThere, HasRequired};
+ghost use Rattle.pc_types.specs.Outlined.{IsOutline, OutlineThere};
 
 use crate::form::{Definition, DomainId, Form, OwnerId, TypeId};
 use crate::operand::{Operand, Outline};
@@ -72,9 +72,9 @@ impl Types {
     }
 
     /// What tests of the type look at. A number that is not there counts as the type of `[]`.
-
     pub(crate) fn outline(&self, operand: Operand) -> Outline
-        ensures { IsOutline (seen self.now) operand result (shape_at (seen self.now) operand) }
+        ensures tells { IsOutline (seen self.now) operand result (shape_at (seen self.now) operand) }
+        ensures there { IsThere (seen self.now) operand → OutlineThere (length (seen self.now).shapes) result }
     {
         match operand {
             Operand::Id(id) => match self.row(id) {

@@ -1,23 +1,8 @@
-use Rattle.std.proofs.Common.{lit<}
-use Rattle.pc_types.proofs.OpeningLaws.{opened-owner, opened-grown, opened-room, opened-is}
+use Rattle.pc_types.proofs.OpeningLaws.{rows-pushed, owner-pushed, seen-built}
 use Rattle.pc_types.proofs.types.Types.new.Goals as goal
-
-pub add-requires-clause-room : goal.add-requires-clause-room
-add-requires-clause-room c =
-    opened-room _ _ (opened-owner _ _ _ c.nothing-types.ensures c.root.ensures c.in_ok-add_owner.ensures.added) (lit< tt)
-
-pub add-requires-2-clause-room : goal.add-requires-2-clause-room
-add-requires-2-clause-room c =
-    opened-room _ _ (opened-grown _ _ _ _ (opened-owner _ _ _ c.nothing-types.ensures c.root.ensures c.in_ok-add_owner.ensures.added) c.in_ok-add.ensures.grown) (lit< tt)
-
-pub add-requires-3-clause-room : goal.add-requires-3-clause-room
-add-requires-3-clause-room c =
-    opened-room _ _ (opened-grown _ _ _ _ (opened-grown _ _ _ _ (opened-owner _ _ _ c.nothing-types.ensures c.root.ensures c.in_ok-add_owner.ensures.added) c.in_ok-add.ensures.grown) c.in_ok-add-2.ensures.grown) (lit< tt)
-
-pub add-requires-4-clause-room : goal.add-requires-4-clause-room
-add-requires-4-clause-room c =
-    opened-room _ _ (opened-grown _ _ _ _ (opened-grown _ _ _ _ (opened-grown _ _ _ _ (opened-owner _ _ _ c.nothing-types.ensures c.root.ensures c.in_ok-add_owner.ensures.added) c.in_ok-add.ensures.grown) c.in_ok-add-2.ensures.grown) c.in_ok-add-3.ensures.grown) (lit< tt)
 
 pub returns : goal.returns
 returns c =
-    opened-is _ _ (opened-grown _ _ _ _ (opened-grown _ _ _ _ (opened-grown _ _ _ _ (opened-grown _ _ _ _ (opened-owner _ _ _ c.nothing-types.ensures c.root.ensures c.in_ok-add_owner.ensures.added) c.in_ok-add.ensures.grown) c.in_ok-add-2.ensures.grown) c.in_ok-add-3.ensures.grown) c.in_ok-add-4.ensures.grown)
+    seen-built _ _ _ _ _ _ _ c.in_ok-required.ensures c.in_ok-required-2.ensures c.in_ok-required-3.ensures c.in_ok-required-4.ensures
+    (rows-pushed _ _ _ _ _ _ _ _ _ c.new-rows.ensures.items c.in_ok-push.ensures.items c.in_ok-push-2.ensures.items c.in_ok-push-3.ensures.items c.in_ok-push-4.ensures.items)
+    (owner-pushed _ _ _ c.new-owners.ensures.items c.root.ensures c.in_ok-push-5.ensures.items) c.new.ensures.items
