@@ -20,7 +20,7 @@ mod site;
 mod spelling;
 mod waiting;
 
-pub use builtin::Builtin;
+pub use builtin::{Builtin, required};
 pub use decl::Decl;
 pub use found::Found;
 pub use scopes::Scopes;
