@@ -1,8 +1,9 @@
 //! Entries of the error list.
 
-ghost use Rattle.std.specs.Prelude.{◌≡◌};
+ghost use Rattle.std.specs.Prelude.{◌≡◌, ◌∷◌, IfOk};
 ghost use Rattle.pc_rules.specs.Attributes.{Entry};
 
+use std::alloc::AllocError;
 use std::marker::Model;
 
 /// An entry of the error list: the place of a node, the number of a row of the table of errors, and a text.
@@ -47,5 +48,18 @@ impl ErrorEntry {
         ensures { result.now ≡ self.now.text }
     {
         &self.text
+    }
+
+    /// The entry as seen from the node above, whose kid `i`, from 1, is the node that it is seen from now. Only memory can fail.
+    pub fn seen_from_above(self, i: u32) -> Result<ErrorEntry, AllocError>
+        ensures { IfOk result (λ entry. entry ≡ record self { place = i ∷ self.place }) }
+    {
+        let mut place = self.place;
+        place.insert(0, i)?;
+        Ok(ErrorEntry {
+            place,
+            row: self.row,
+            text: self.text,
+        })
     }
 }
