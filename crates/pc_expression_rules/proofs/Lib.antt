@@ -1,0 +1,4 @@
+pub mod OperatorSteps
+pub mod ResultSteps
+pub mod ConstantSteps
+pub mod MemberSteps
