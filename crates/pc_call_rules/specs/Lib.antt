@@ -1,0 +1,3 @@
+pub mod Parameters
+pub mod Purposes
+pub mod Calls
