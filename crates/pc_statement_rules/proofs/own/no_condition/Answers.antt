@@ -1,0 +1,5 @@
+use Rattle.pc_statement_rules.proofs.OwnSteps.{condition-entries}
+use Rattle.pc_statement_rules.proofs.own.no_condition.Goals as goal
+
+pub returns : goal.returns
+returns c = λ t ty same h. condition-entries _ t _ ty _ _ _ same h c.new-entries.ensures.items c.is_no_condition.ensures c.in_ok-add_note_if.ensures
