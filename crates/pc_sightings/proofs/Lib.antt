@@ -1,0 +1,3 @@
+pub mod OpenedSteps
+pub mod MeetingSteps
+pub mod TouchedSteps
