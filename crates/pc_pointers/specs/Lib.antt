@@ -1,0 +1,9 @@
+pub mod Good
+pub mod GoodLaws
+pub mod ResultLaws
+pub mod NameLaws
+pub mod NodeLaws
+pub mod ExpressionLaws
+pub mod PlaceLaws
+pub mod RuleLaws
+pub mod PointerLaws
