@@ -1,0 +1,10 @@
+pub mod Reached
+pub mod PlaceLaws
+pub mod WalkLaws
+pub mod Settled
+pub mod LeadLaws
+pub mod ClosedLaws
+pub mod BlockLaws
+pub mod Carried
+pub mod CarriedLaws
+pub mod ClosesLaws
