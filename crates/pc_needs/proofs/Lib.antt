@@ -13,3 +13,14 @@ pub mod UniqueLemmas
 pub mod UniqueRoutines
 pub mod ForwardLemmas
 pub mod InsideLemmas
+pub mod BodyKinds
+pub mod HeadingKinds
+pub mod BodyRows
+pub mod BodyTwins
+pub mod PlacesApart
+pub mod BodyLemmas
+pub mod Changed
+pub mod BodyPaths
+pub mod BodyParts
+pub mod BodyChanges
+pub mod ChangeLemmas

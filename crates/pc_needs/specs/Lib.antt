@@ -5,3 +5,4 @@ pub mod Unaffected
 pub mod Keys
 pub mod Inside
 pub mod Cases
+pub mod Bodies
