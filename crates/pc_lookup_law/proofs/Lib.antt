@@ -1,0 +1,12 @@
+pub mod ClassAtLaws
+pub mod KidsLaws
+pub mod ParameterLaws
+pub mod BlockKidsLaws
+pub mod HeadingKidsLaws
+pub mod BelongsLaws
+pub mod GoingLaws
+pub mod CountingLaws
+pub mod InnerBlockLaws
+pub mod ListLaws
+pub mod ProgramBlockLaws
+pub mod ProgramLaws

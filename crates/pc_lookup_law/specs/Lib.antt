@@ -1,0 +1,2 @@
+pub mod ClassAt
+pub mod ProgramLaw
