@@ -1,0 +1,13 @@
+pub mod NodesAt
+pub mod AtFormLaws
+pub mod Resolved
+pub mod BodyLaws
+pub mod SeesLaws
+pub mod NameLaws
+pub mod RowsLaws
+pub mod WholeLaws
+pub mod ListLaws
+pub mod LeadLaws
+pub mod Held
+pub mod MemberLaws
+pub mod ArgumentLaws
