@@ -1,5 +1,5 @@
 -- Constants and their types: lemmas.
-use Rattle.std.specs.Prelude.{◌≡◌, ℕ, Bool, true, false, not, ◌||◌, if◌then◌else◌, List, [], ◌∷◌, ◌++◌, Option, option_map, length, slice_get, map, pos}
+use Rattle.std.specs.Prelude.{◌≡◌, ℕ, Bool, true, false, not, ◌||◌, if◌then◌else◌, List, [], ◌∷◌, ◌++◌, Option, option_map, length, slice_get, pos}
 use Rattle.std.proofs.Common.{refl, sym, subst, ap, ◌∙◌, Some, None}
 use Rattle.pc_syntax.specs.declared.kind.Kind.{Kind}
 use Rattle.pc_types.specs.Table.{Table, IsThere, shape_at}
@@ -99,14 +99,14 @@ pub kid-and-note : (i row : ℕ) (text : List ℕ) (old one two es fs : List Ent
 kid-and-note i row text old one two es fs n m none e first second same =
     second ∙ ap (λ b. one ++ note_if b row text) same ∙ ap (λ xs. xs ++ note_if m row text) (first ∙ ap (λ xs. xs ++ at_kid i es) none ∙ ap (at_kid i) e)
 
-last-of : {X : Type 0} (xs : List X) (x : X) (f : X → List ℕ) → slice_get (map f (xs ++ x ∷ [])) (length xs) ≡ Some (f x)
-last-of [] x f = refl
-last-of (y ∷ xs) x f = last-of xs x f
+last-of : (xs : List (List ℕ)) (x : List ℕ) → slice_get (xs ++ x ∷ []) (length xs) ≡ Some x
+last-of [] x = refl
+last-of (y ∷ xs) x = last-of xs x
 
 -- the text that was added last
-pub last-text : {X : Type 0} (texts : List (List ℕ)) (new old : List X) (x : X) (n : ℕ) (f : X → List ℕ) → texts ≡ map f new → new ≡ old ++ x ∷ [] → n ≡ length old → slice_get texts n ≡ Some (f x)
-last-text texts new old x n f same added number =
-    ap (λ ts. slice_get ts n) same ∙ ap (λ ts. slice_get (map f ts) n) added ∙ ap (slice_get (map f (old ++ x ∷ []))) number ∙ last-of old x f
+pub last-text : (texts new old : List (List ℕ)) (x y : List ℕ) (n : ℕ) → texts ≡ new → new ≡ old ++ y ∷ [] → y ≡ x → n ≡ length old → slice_get texts n ≡ Some x
+last-text texts new old x y n same added is number =
+    ap (λ ts. slice_get ts n) (same ∙ added ∙ ap (λ t. old ++ t ∷ []) is) ∙ ap (slice_get (old ++ x ∷ [])) number ∙ last-of old x
 
 -- the value of a text of one character, and of any other
 pub one-shown : (k : Known) (v : Value) (cs : List ℕ) (c : ℕ) → Some c ≡ only cs → ShowsValue k v (record { type = CharType; constant = rules.Ordinal (pos c) }) → ShowsValue k v (text_value cs)

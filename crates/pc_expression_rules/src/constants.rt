@@ -1,6 +1,6 @@
 //! Numerals and texts as constants (ISO 7185, 6.3).
 
-ghost use Rattle.std.specs.Prelude.{◌≡◌, ◌++◌, List, ℕ, map, IfOk, OnOk, OnErr};
+ghost use Rattle.std.specs.Prelude.{◌≡◌, ◌++◌, List, ℕ, IfOk, OnOk, OnErr};
 ghost use Rattle.pc_syntax.specs.declared.kind.Kind.TheVariants as kind;
 ghost use Rattle.pc_types.specs.Rows.{seen};
 ghost use Rattle.pc_rules.specs.Constants as rule;
@@ -14,7 +14,7 @@ use crate::constant_facts::constant_node;
 use crate::numerals::{is_too_large, numeral_value};
 use crate::strings::text_constant;
 use pc_facts::{Facts, add_note_if};
-use pc_syntax::Kind;
+use pc_syntax::{Kind, Word};
 use pc_types::Types;
 use std::alloc::{AllocError, Global};
 
@@ -40,11 +40,11 @@ pub fn number_constant(alloc: Global, types: &Types, word: &[u8]) -> Result<Fact
 pub fn string_constant(
     alloc: Global,
     types: &Types,
-    texts: &mut Vec<Vec<u8>>,
+    texts: &mut Vec<Word>,
     word: &[u8],
 ) -> Result<Facts, AllocError>
-    ensures shown { IfOk result (λ f. (k : Known) (w : List ℕ) → k.table ≡ seen types.now → k.texts ≡ map (λ t. t.items) texts.new.items → ShowsNode k f (with_kind kind.Cstring w (rule.string_rule word.now))) }
-    ensures kept { OnOk result (map (λ t. t.items) texts.new.items ≡ map (λ t. t.items) texts.old.items ++ kept_text (rule.characters word.now)) }
+    ensures shown { IfOk result (λ f. (k : Known) (w : List ℕ) → k.table ≡ seen types.now → k.texts ≡ texts.new.items → ShowsNode k f (with_kind kind.Cstring w (rule.string_rule word.now))) }
+    ensures kept { OnOk result (texts.new.items ≡ texts.old.items ++ kept_text (rule.characters word.now)) }
     ensures failure { OnErr result (texts.new.items ≡ texts.old.items) }
 {
     let chars = characters_of(alloc, word)?;

@@ -1,6 +1,6 @@
 //! The values of texts.
 
-ghost use Rattle.std.specs.Prelude.{◌≡◌, ◌++◌, length, map, pos, [], ◌∷◌, IfOk, OnOk, OnErr};
+ghost use Rattle.std.specs.Prelude.{◌≡◌, ◌++◌, length, pos, [], ◌∷◌, IfOk, OnOk, OnErr};
 ghost use Rattle.pc_types.specs.Shapes.{CharType, TextType};
 ghost use Rattle.pc_types.specs.Rows.{seen};
 ghost use Rattle.pc_rules.specs.Constants.{text_value};
@@ -11,6 +11,7 @@ ghost use Rattle.pc_expression_rules.specs.Texts.{only, kept_text};
 
 use crate::primaries::u32_of;
 use pc_facts::{Constant, TextId, Value};
+use pc_syntax::Word;
 use pc_types::{Operand, Types};
 use std::alloc::AllocError;
 
@@ -18,11 +19,11 @@ use std::alloc::AllocError;
 /// table. Fails for want of memory, and where a number is 2^32 or more, and then the table is as it was.
 pub fn text_constant(
     types: &Types,
-    texts: &mut Vec<Vec<u8>>,
+    texts: &mut Vec<Word>,
     chars: Vec<u8>,
 ) -> Result<Value, AllocError>
-    ensures shown { IfOk result (λ v. (k : Known) → k.table ≡ seen types.now → k.texts ≡ map (λ t. t.items) texts.new.items → ShowsValue k v (text_value chars.items)) }
-    ensures kept { OnOk result (map (λ t. t.items) texts.new.items ≡ map (λ t. t.items) texts.old.items ++ kept_text chars.items) }
+    ensures shown { IfOk result (λ v. (k : Known) → k.table ≡ seen types.now → k.texts ≡ texts.new.items → ShowsValue k v (text_value chars.items)) }
+    ensures kept { OnOk result (texts.new.items ≡ texts.old.items ++ kept_text chars.items) }
     ensures failure { OnErr result (texts.new.items ≡ texts.old.items) }
 {
     match only_character(chars.as_slice()) {
@@ -52,13 +53,13 @@ fn character_value(types: &Types, character: u8) -> Value
 }
 
 /// The value of a string, whose characters become the last ones of the table.
-fn keep_text(texts: &mut Vec<Vec<u8>>, chars: Vec<u8>) -> Result<Value, AllocError>
-    ensures shown { IfOk result (λ v. (k : Known) → k.texts ≡ map (λ t. t.items) texts.new.items → ShowsValue k v (record { type = TextType (length chars.items); constant = rules.Chars chars.items })) }
-    ensures kept { OnOk result (map (λ t. t.items) texts.new.items ≡ map (λ t. t.items) texts.old.items ++ chars.items ∷ []) }
+fn keep_text(texts: &mut Vec<Word>, chars: Vec<u8>) -> Result<Value, AllocError>
+    ensures shown { IfOk result (λ v. (k : Known) → k.texts ≡ texts.new.items → ShowsValue k v (record { type = TextType (length chars.items); constant = rules.Chars chars.items })) }
+    ensures kept { OnOk result (texts.new.items ≡ texts.old.items ++ chars.items ∷ []) }
     ensures failure { OnErr result (texts.new.items ≡ texts.old.items) }
 {
     let of = Operand::Text(u32_of(chars.len())?);
     let constant = Constant::Chars(TextId(u32_of(texts.len())?));
-    texts.push(chars)?;
+    texts.push(Word::from_vec(chars))?;
     Ok(Value { of, constant })
 }

@@ -17,7 +17,7 @@ mod subranges;
 pub use add::add_type;
 pub use arrays::array;
 pub use enumerations::enumerated;
-pub use names::type_name;
+pub use names::{type_name, type_of_sighting};
 pub use node::{denoter, sized_denoter};
 pub use number::{made, number_of};
 pub use pointers::pointer;

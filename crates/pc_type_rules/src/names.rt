@@ -41,7 +41,7 @@ pub fn type_name(
 }
 
 /// The type that a name means.
-fn type_of_sighting(types: &Types, sighting: Sighting) -> Option<Operand>
+pub fn type_of_sighting(types: &Types, sighting: Sighting) -> Option<Operand>
     ensures { (k : Known) (n : List ℕ) (f : meanings.Found) → k.table ≡ seen types.now → ShowsFound k n sighting f → ShowsType (seen types.now) result (type_of_found f) }
 {
     match sighting {

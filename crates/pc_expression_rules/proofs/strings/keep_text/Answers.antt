@@ -10,5 +10,5 @@ returns-clause-shown c = λ k same.
     record {
       shape = ap TextType one;
       there = tt;
-      constant = last-text k.texts c.push.new.self.items c.args.texts.now.items c.args.chars _ (λ t. t.items) same c.in_ok-push.ensures.items other;
+      constant = last-text k.texts c.push.new.self.items c.args.texts.now.items c.args.chars.items _ _ same c.in_ok-push.ensures.items c.from_vec.ensures other;
     }
