@@ -73,4 +73,4 @@ module _ (t : Plain) (proper : IsProper t) (program : is_program t.kind ≡ true
     which rest false e = ap (λ (b : Bool). b || touched_by_others (routines_of t) xs r.owner n) (silent x h.0 e) ∙ rest
 
 pub touches-law : TouchesLaw
-touches-law t r n proper program here block = by-inside t proper program r here block n (routines_of t) (routines-scoped t proper)
+touches-law t r n proper program here block = by-inside t proper program r here block n (routines_of t) (routines-scoped t proper program)

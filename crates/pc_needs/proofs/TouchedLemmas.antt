@@ -13,6 +13,7 @@ use Rattle.pc_scope.specs.Headings.{Heading, pairs}
 use Rattle.pc_rules.specs.Attributes.{Attributes, Marked, Done, Mark, first, nodes}
 use Rattle.pc_rules.specs.Declarations.{heading_here}
 use Rattle.pc_rules.specs.Decorated.{decorate}
+use Rattle.pc_rules.specs.Errors.{is_program}
 use Rattle.pc_rules.specs.HandedOn.{all_touches}
 use Rattle.pc_rules.specs.Meanings.{Meaning, Found, Here, Later, Component, Required, Missing, Local, is_routine_class, find}
 use Rattle.pc_rules.specs.Outsides.{signature_named, completed_by, quiet}
@@ -27,7 +28,7 @@ use Rattle.pc_needs.specs.Unaffected.{IsOneOf}
 use Rattle.pc_needs.proofs.BlockOwners.{OfKnown, beside-known, inner-known, find-one, of-decorated, of-touches}
 use Rattle.pc_needs.proofs.Lists.{Each, each-append, each-map, each-both}
 use Rattle.pc_needs.proofs.Owners.{inner-owner, beside-owner}
-use Rattle.pc_needs.proofs.ParameterLemmas.{NoVariables, heading-no-variable, firsts-no-variable}
+use Rattle.pc_needs.proofs.ParameterLemmas.{AreOfHeading, heading-parameters, program-parameters, firsts-of-heading}
 use Rattle.pc_needs.proofs.PlaceLemmas.{of-part, one-front, one-back, StandsBelow, places-below, block-heading, below-block}
 use Rattle.pc_needs.proofs.VariableOwners.{OfMeaning, OfFound, OfVariables, OfDefines, OfNodeItself, OfMarked, of-nodes, at}
 
@@ -42,7 +43,8 @@ IsAround P rs r o = P o ⊎ Encloses rs r o
 -- what names mean around a routine are variables of owners around it; parameters that it is given are no variables of a declaration part
 pub record IsScoped (P : Owner → Type 0) (rs : List Routine) (r : Routine) : Type 0 where
   pub means : (n : List ℕ) → OfFound (IsAround P rs r) (r.means n)
-  pub given : NoVariables r.given
+  pub given : AreOfHeading r.given
+  pub parameters : AreOfHeading (parameters_of r)
 
 -- a routine's own block, or one around
 abbrev pub OrOwn : (Owner → Type 0) → Routine → Owner → Type 0
@@ -57,12 +59,12 @@ found-more P Q Missing g h = tt
 
 -- among more routines
 scoped-more : (P Q : Owner → Type 0) (rs us : List Routine) (r : Routine) → ((o : Owner) → IsAround P rs r o → IsAround Q us r o) → IsScoped P rs r → IsScoped Q us r
-scoped-more P Q rs us r g h = record { means = λ n. found-more (IsAround P rs r) (IsAround Q us r) (r.means n) g (h.means n); given = h.given }
+scoped-more P Q rs us r g h = record { means = λ n. found-more (IsAround P rs r) (IsAround Q us r) (r.means n) g (h.means n); given = h.given; parameters = h.parameters }
 
 -- no variable of a declaration part has an owner that matters
-defines-any : (P : Owner → Type 0) (ds : List (List ℕ × Meaning)) → NoVariables ds → OfDefines P ds
+defines-any : (P : Owner → Type 0) (ds : List (List ℕ × Meaning)) → AreOfHeading ds → OfDefines P ds
 defines-any P [] h = tt
-defines-any P (d ∷ ds) h = ((λ e. absurd (true≢false (sym e ∙ h.0))), defines-any P ds h.1)
+defines-any P (d ∷ ds) h = ((λ e. absurd (true≢false (sym e ∙ h.0.0))), defines-any P ds h.1)
 
 firsts-of : (P : Owner → Type 0) (before : List (List ℕ)) (ds : List (List ℕ × Meaning)) → OfDefines P ds → OfDefines P (firsts before ds)
 firsts-of P before [] h = tt
@@ -80,13 +82,13 @@ first-of-marked P (Mark a below rest) h = h.0
 
 -- the parameters of those that wait
 abbrev pub NoneWaits : List Forwarded → Type 0
-NoneWaits fs = Each (λ (f : Forwarded). NoVariables f.parameters) fs
+NoneWaits fs = Each (λ (f : Forwarded). AreOfHeading f.parameters) fs
 
-given-no : (h : Heading) (fs : List Forwarded) → NoneWaits fs → NoVariables (option_map_or (λ (x : Forwarded). x.parameters) (forwarded_for h fs) [])
+given-no : (h : Heading) (fs : List Forwarded) → NoneWaits fs → AreOfHeading (option_map_or (λ (x : Forwarded). x.parameters) (forwarded_for h fs) [])
 given-no h [] w = tt
 given-no h (f ∷ fs) w = which (given-no h fs w.1) (pairs h f.heading) where
-  which : NoVariables (option_map_or (λ (x : Forwarded). x.parameters) (forwarded_for h fs) []) → (b : Bool) →
-      NoVariables (option_map_or (λ (x : Forwarded). x.parameters) (if b then Some f else forwarded_for h fs) [])
+  which : AreOfHeading (option_map_or (λ (x : Forwarded). x.parameters) (forwarded_for h fs) []) → (b : Bool) →
+      AreOfHeading (option_map_or (λ (x : Forwarded). x.parameters) (if b then Some f else forwarded_for h fs) [])
   which rest true = w.0
   which rest false = rest
 
@@ -102,22 +104,22 @@ either P true x y h g = h
 either P false x y h g = g
 
 -- the parameters of a routine with a well-formed heading
-parameters-no : (r : Routine) (k : Kind) (w : List ℕ) (ks : Forest) → r.heading ≡ heading_part ks → NoVariables r.given → part_of k ≡ ARoutine →
-    fits_some (layout k w (count ks)) (kinds ks) ≡ true → WellFormed ks → NoVariables (parameters_of r)
+parameters-no : (r : Routine) (k : Kind) (w : List ℕ) (ks : Forest) → r.heading ≡ heading_part ks → AreOfHeading r.given → part_of k ≡ ARoutine →
+    fits_some (layout k w (count ks)) (kinds ks) ≡ true → WellFormed ks → AreOfHeading (parameters_of r)
 unfolding heading_marks
 parameters-no r k w ks e h p f g =
-    either NoVariables r.is_later _ _ h
-    (firsts-no-variable [] _ (subst (λ (x : Forest). NoVariables (params_in (decorate (bare r.means) (heading_start r.owner) x)).defines) (sym e)
-    (heading-no-variable (bare r.means) (heading_start r.owner) k w ks p f g)))
+    either AreOfHeading r.is_later _ _ h
+    (firsts-of-heading [] _ (subst (λ (x : Forest). AreOfHeading (params_in (decorate (bare r.means) (heading_start r.owner) x)).defines) (sym e)
+    (heading-parameters (bare r.means) (heading_start r.owner) k w ks p f g)))
 
-forwarded-no : (l : Local) (r : Routine) (fs : List Forwarded) → NoVariables (parameters_of r) → NoneWaits fs → NoneWaits (forwarded_by l r fs)
+forwarded-no : (l : Local) (r : Routine) (fs : List Forwarded) → AreOfHeading (parameters_of r) → NoneWaits fs → NoneWaits (forwarded_by l r fs)
 forwarded-no l r fs h w = which (heading_here l).is_forward where
   which : (b : Bool) → NoneWaits (if b then fs ++ record { heading = heading_here l; key = key_of r.owner; parameters = parameters_of r } ∷ [] else without_forwarded (heading_here l) fs)
-  which true = each-append (λ (f : Forwarded). NoVariables f.parameters) fs _ w (h, tt)
+  which true = each-append (λ (f : Forwarded). AreOfHeading f.parameters) fs _ w (h, tt)
   which false = without-no (heading_here l) fs w
 
 -- the parameters, where what names mean around is known
-parameters-known : (P : Owner → Type 0) (r : Routine) → NoVariables r.given → P r.owner → ((n : List ℕ) → OfFound P (r.means n)) → OfDefines P (parameters_of r)
+parameters-known : (P : Owner → Type 0) (r : Routine) → AreOfHeading r.given → P r.owner → ((n : List ℕ) → OfFound P (r.means n)) → OfDefines P (parameters_of r)
 unfolding heading_marks
 parameters-known P r h o g =
     either (OfDefines P) r.is_later _ _ (defines-any P r.given h)
@@ -145,13 +147,13 @@ all-lifted P r bs us i m h k s =
     (each-both (IsScoped (OrOwn P r) bs) (λ b. (has_block r.heading ≡ true) × StandsBelow r.place b) bs h (each-both (λ b. has_block r.heading ≡ true) (StandsBelow r.place) bs k s))
 
 -- a routine, those inside it, and those behind
-joined : (P : Owner → Type 0) (r : Routine) (bs ts : List Routine) → ((n : List ℕ) → OfFound P (r.means n)) → NoVariables r.given →
+joined : (P : Owner → Type 0) (r : Routine) (bs ts : List Routine) → ((n : List ℕ) → OfFound P (r.means n)) → AreOfHeading r.given → AreOfHeading (parameters_of r) →
     Each (IsScoped (OrOwn P r) bs) bs → Each (λ b. has_block r.heading ≡ true) bs → Each (StandsBelow r.place) bs → Each (IsScoped P ts) ts →
     Each (IsScoped P ((r ∷ bs) ++ ts)) ((r ∷ bs) ++ ts)
-joined P r bs ts g v h k s t =
+joined P r bs ts g v q h k s t =
     let us : List Routine = (r ∷ bs) ++ ts in
     each-append (IsScoped P us) (r ∷ bs) ts (
-      record { means = λ n. found-more P (IsAround P us r) (r.means n) (λ o x. inl x) (g n); given = v },
+      record { means = λ n. found-more P (IsAround P us r) (r.means n) (λ o x. inl x) (g n); given = v; parameters = q },
       all-lifted P r bs us (inl refl) (λ x i. one-front (r ∷ bs) ts x (inr i)) h k s,
     )
     (each-map (IsScoped P ts) (IsScoped P us) ts (λ b x. scoped-more P P ts us b (wider P ts us (λ y i. one-back (r ∷ bs) ts y i) b) x) t)
@@ -171,9 +173,9 @@ mutual
       let known : OfKnown P after = beside-known P l k a h found.3 in
       let owner : P after.owner = subst P (sym (beside-owner l k a)) o in
       let means : (n : List ℕ) → OfFound P (m' n) = λ n. find-one P (bare m) after n known (g n) in
-      let given : NoVariables r.given = given-no (heading_here l) fs w in
+      let given : AreOfHeading r.given = given-no (heading_here l) fs w in
       of-part (λ rs. Each (IsScoped P rs) rs) (part_of k) _ _ _
-      (λ e. joined P r (routines_below r 1 ks) (routines_in m after (forwarded_by l r fs) p key ts) means given
+      (λ e. joined P r (routines_below r 1 ks) (routines_in m after (forwarded_by l r fs) p key ts) means given (parameters-no r k v ks refl given e c.0 c.3)
       (scoped-below P r 1 ks c.3 given means)
       (each-map (λ b. has_block ks ≡ true) (λ b. has_block r.heading ≡ true) (routines_below r 1 ks) (λ b x. block-heading ks ∙ x) (below-block r 1 ks))
       (places-below r 1 ks)
@@ -181,7 +183,7 @@ mutual
       (λ e. scoped-in P m (inner l k ks) [] (p ++ l.kid ∷ []) key ks c.3 (subst P (sym (inner-owner l k ks)) o) (inner-known P l k ks o h) g tt)
       (λ e. scoped-in P m after fs p key ts c.4 owner known g w)
 
-  pub scoped-below : (P : Owner → Type 0) (r : Routine) (i : ℕ) (f : Forest) → WellFormed f → NoVariables r.given → ((n : List ℕ) → OfFound P (r.means n)) →
+  pub scoped-below : (P : Owner → Type 0) (r : Routine) (i : ℕ) (f : Forest) → WellFormed f → AreOfHeading r.given → ((n : List ℕ) → OfFound P (r.means n)) →
       Each (IsScoped (OrOwn P r) (routines_below r i f)) (routines_below r i f)
   scoped-below P r i Nil c v g = tt
   scoped-below P r i (Cons kind.Block w ns ks ts) c v g =
@@ -201,13 +203,21 @@ required-found P n = which _ where
   which true = tt
   which false = tt
 
-pub routines-scoped : (t : Plain) → IsProper t → Each (IsScoped NoOwner (routines_of t)) (routines_of t)
-unfolding routines_of
-routines-scoped t proper =
+program-fits : (k : Kind) (w : List ℕ) (f : Forest) → is_program k ≡ true → fits_some (layout k w (count f)) (kinds f) ≡ true → fits_some (layout kind.Program w (count f)) (kinds f) ≡ true
+program-fits kind.Program w f e h = h
+program-fits k w f e h = absurd (true≢false (sym e))
+
+pub routines-scoped : (t : Plain) → IsProper t → is_program t.kind ≡ true → Each (IsScoped NoOwner (routines_of t)) (routines_of t)
+unfolding routines_of heading_marks
+routines-scoped t proper program =
     let r : Routine = program_routine t in
     let bs : List Routine = routines_below r 1 t.kids in
     let means : (n : List ℕ) → OfFound NoOwner (r.means n) = λ n. required-found NoOwner n in (
-      record { means = λ n. required-found (IsAround NoOwner (r ∷ bs) r) n; given = tt },
+      record {
+        means = λ n. required-found (IsAround NoOwner (r ∷ bs) r) n;
+        given = tt;
+        parameters = firsts-of-heading [] _ (program-parameters (bare r.means) (heading_start r.owner) t.word t.kids (program-fits t.kind t.word t.kids program proper.sound.0));
+      },
       all-lifted NoOwner r bs (r ∷ bs) (inl refl) (λ x i. inr i) (scoped-below NoOwner r 1 t.kids proper.sound.3 tt means)
           (each-map (λ b. has_block t.kids ≡ true) (λ b. has_block r.heading ≡ true) bs (λ b x. block-heading t.kids ∙ x) (below-block r 1 t.kids)) (places-below r 1 t.kids),
     )
