@@ -1,0 +1,13 @@
+pub mod Scenes
+pub mod Places
+pub mod Parameters
+pub mod UnsignedLaws
+pub mod NamedLaws
+pub mod SceneLaws
+pub mod PlacesLaws
+pub mod NamingLaws
+pub mod MovesLaws
+pub mod NumberingLaws
+pub mod ReboundLaws
+pub mod ParametersLaws
+pub mod ConstantLaws
