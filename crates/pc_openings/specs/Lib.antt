@@ -1,0 +1,9 @@
+pub mod Announced
+pub mod AnnouncedLaws
+pub mod Declaring
+pub mod DeclaringLaws
+pub mod StillKinds
+pub mod StillLaws
+pub mod Opened
+pub mod CarriesLaws
+pub mod OpenedLaws
