@@ -1,0 +1,13 @@
+pub mod Heads
+pub mod Later
+pub mod Waits
+pub mod Bare
+pub mod PairsLaws
+pub mod KeyLaws
+pub mod HeadsLaws
+pub mod WaitsLaws
+pub mod ForwardedLaws
+pub mod BareLaws
+pub mod RoutineLaws
+pub mod BesideLaws
+pub mod DeclaringLaws
