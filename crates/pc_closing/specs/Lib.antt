@@ -1,0 +1,17 @@
+pub mod Whole
+pub mod Kept
+pub mod Search
+pub mod Searched
+pub mod WholeLaws
+pub mod AgreeLaws
+pub mod KeptLaws
+pub mod MarksLaws
+pub mod FollowLaws
+pub mod NoteLaws
+pub mod NotedLaws
+pub mod GatherLaws
+pub mod SpreadLaws
+pub mod StepLaws
+pub mod EndedLaws
+pub mod EndLaws
+pub mod FlagLaws
