@@ -1,5 +1,5 @@
 -- Arguments of calls: lemmas.
-use Rattle.std.specs.Prelude.{◌≡◌, ℕ, ◌+◌, Bool, true, false, List, [], ◌∷◌, ◌++◌, Option, Some, None, slice_get, get_or, sum_by}
+use Rattle.std.specs.Prelude.{◌≡◌, ℕ, ◌+◌, Bool, true, false, List, [], ◌∷◌, Option, Some, slice_get, get_or, sum_by}
 use Rattle.std.proofs.Common.{refl, ap, sym, ◌∙◌, subst}
 use Rattle.pc_syntax.specs.Classes.{has, is_argument, is_expression}
 use Rattle.pc_syntax.specs.Plain.{Plain, kids_of}
@@ -8,15 +8,13 @@ use Rattle.pc_syntax.specs.Words.{lowered}
 use Rattle.pc_syntax.specs.declared.class.Class.TheVariants as class
 use Rattle.pc_syntax.specs.declared.kind.Kind.{Kind}
 use Rattle.pc_syntax.specs.declared.kind.Kind.TheVariants as kind
-use Rattle.pc_types.specs.Table.{Table}
-use Rattle.pc_types.specs.Shapes.{Typed}
 use Rattle.pc_types.specs.declared.operand.Operand.{Operand}
 use Rattle.pc_forms.specs.Form.{PlainForm, form_of}
-use Rattle.pc_forms.specs.FormClasses.{Every, HasKids}
+use Rattle.pc_forms.specs.FormClasses.{HasKids}
 use Rattle.pc_forms.specs.FormKids.{kids_in}
 use Rattle.pc_forms.specs.FormLaws.{kids_in-form_of, kind_in-form_of, classes-form_of, size-form_of}
 use Rattle.pc_forms.specs.declared.form.Form.TheVariants as form
-use Rattle.pc_rules.specs.Attributes.{Attributes, Node, nodes, missing, kids_below, first_below, second_below}
+use Rattle.pc_rules.specs.Attributes.{Attributes, Node, nodes, missing, first_below, second_below}
 use Rattle.pc_rules.specs.Arguments.{is_width}
 use Rattle.pc_rules.specs.HandedOn.{handed_on}
 use Rattle.pc_rules.specs.Decorated.{with_kind}
@@ -25,21 +23,24 @@ use Rattle.pc_rules.specs.RequiredFunctions.{is_reference}
 use Rattle.pc_environment.specs.Decorating.{attributes_at, below_at, place_behind, marks_of}
 use Rattle.pc_environment.specs.RowLaws.{SeesFrom, sees-behind}
 use Rattle.pc_environment.specs.Sight.{Sight, is_body}
-use Rattle.pc_facts.specs.Known.{Known}
-use Rattle.pc_facts.specs.Shows.{AllShow, ShowsArgument, ShowsFound, ShowsName, ShowsNode, ShowsType, value_of}
+use Rattle.pc_facts.specs.Shows.{ShowsArgument, ShowsFound, ShowsName, ShowsNode, ShowsType, value_of}
 use Rattle.pc_facts.specs.declared.facts.Argument.{Argument}
 use Rattle.pc_facts.specs.declared.facts.Facts.{Facts}
 use Rattle.pc_facts.specs.declared.sighting.Named.{Named}
 use Rattle.pc_facts.specs.declared.sighting.Sighting.{Sighting}
+use Rattle.pc_facts.specs.declared.sighting.Variable.{Variable}
+use Rattle.pc_call_rules.specs.Parameters.{Logs}
+use Rattle.pc_growth.specs.Grows.{Begins}
+use Rattle.pc_growth.specs.GrowsLaws.{Begins-then, ShowsNode-grows, Logs-grows}
 use Rattle.pc_bodies.specs.declared.body.Body.{Body}
 use Rattle.pc_bodies.specs.declared.body.Going.{Going}
 use Rattle.pc_bodies.specs.AtFormLaws.{at-form, kind-form}
 use Rattle.pc_bodies.specs.BodyLaws.{class-body}
 use Rattle.pc_bodies.specs.ListLaws.{every-at}
-use Rattle.pc_bodies.specs.NodesAt.{node_at, first_place, found_at}
+use Rattle.pc_bodies.specs.NodesAt.{node_at, first_place}
 use Rattle.pc_bodies.specs.Resolved.{known, ResolvesAs, Resolves, Stands}
-use Rattle.pc_bodies.specs.RowsLaws.{kids-of-kind, at-kind, at-word}
-use Rattle.pc_bodies.specs.SeesLaws.{sees-first, known-kept, stands-kept, classes-at}
+use Rattle.pc_bodies.specs.RowsLaws.{kids-of-kind, at-kind}
+use Rattle.pc_bodies.specs.SeesLaws.{sees-first, known-grows, stands-kept, begins-kept, logs-kids, classes-at}
 
 -- the list of arguments has its kind
 pub args-kind : (k : Kind) → has class.Args k ≡ true → k ≡ kind.Args
@@ -90,7 +91,7 @@ shows-width b g0 g1 g2 t x y f1 f2 g proper e r1 r2 o p rule = record {
       let kids = width-kids out l t x y proper e in
       let one : first_below n ≡ node_at out l1 x = ap (λ (ns : List Node). get_or ns 0 missing) kids in
       let two : second_below n ≡ node_at out l2 y = ap (λ (ns : List Node). get_or ns 1 missing) kids in
-      let s1 : ShowsNode (known b g2) f1 (attributes_at out l1 x) = subst (λ (k : Known). ShowsNode k f1 (attributes_at out l1 x)) (sym (known-kept b g1 g2 r2.texts)) (r1.shows out l1 s first stands) in
+      let s1 : ShowsNode (known b g2) f1 (attributes_at out l1 x) = ShowsNode-grows (known b g1) (known b g2) f1 (attributes_at out l1 x) (known-grows b g1 g2 r2.texts) (r1.shows out l1 s first stands) in
       let s2 : ShowsNode (known b g2) f2 (attributes_at out l2 y) = r2.shows out l2 s (sees-behind out l1 s x body first) (stands-kept b g0 g1 s r1.opened r1.texts stands) in
       record {
         at = subst (λ (a : Attributes). ShowsNode (known b g2) g.at a) (sym (at-form out l t (form.Width x y) proper e)) (rule (node_at out l1 x) (node_at out l2 y) s1 s2);
@@ -98,8 +99,12 @@ shows-width b g0 g1 g2 t x y f1 f2 g proper e r1 r2 o p rule = record {
         first = λ is. subst (λ (m : Node). ShowsType (known b g2).table g.first m.at.as_value.type) (sym one) (subst (λ (q : Option Operand). ShowsType (known b g2).table q (attributes_at out l1 x).as_value.type) (sym o) s1.value.type);
         second = λ is. subst (λ (m : Node). ShowsType (known b g2).table g.second m.at.as_value.type) (sym two) (subst (λ (q : Option Operand). ShowsType (known b g2).table q (attributes_at out l2 y).as_value.type) (sym p) s2.value.type);
       };
+  touched = λ out l s sees stands.
+      let body : is_body x.kind ≡ true = class-body class.Expression x.kind refl (classes-at t (form.Width x y) proper e).0 in
+      subst (Logs (known b g2) g0.touched.items g2.touched.items) (sym (ap (λ (a : Attributes). a.touches) (at-form out l t (form.Width x y) proper e)))
+      (logs-kids b g0 g1 g2 x y kind.Width refl refl body r1.opened r1.texts r2.texts r1.touched r2.touched out l s sees stands);
   opened = r2.opened ∙ r1.opened;
-  texts = r2.texts ∙ r1.texts;
+  texts = Begins-then g0.texts.items g1.texts.items g2.texts.items r1.texts r2.texts;
 }
 
 no-width : (k : Kind) → (k ≡ kind.Width → ⊥) → is_width k ≡ false
@@ -120,6 +125,7 @@ shows-plain b g0 g1 t g width ref r = record {
         first = λ is. absurd (false-true _ (ap is_width (at-kind out l t) ∙ no-width t.kind width) is);
         second = λ is. absurd (false-true _ (ap is_width (at-kind out l t) ∙ no-width t.kind width) is);
       };
+  touched = r.touched;
   opened = r.opened;
   texts = r.texts;
 }
@@ -127,8 +133,8 @@ shows-plain b g0 g1 t g width ref r = record {
 -- an argument that is a name alone
 pub shows-reference : (b : Body) (g0 g1 g2 : Going) (t x : Plain) (m : Named) (g : Argument) → IsProper t → form.Ref x ≡ form_of t → Resolves b g0 g1 t g.at →
     ((out : Outside) (l : Local) (s : Sight) → SeesFrom out l s → l.using ≡ true → Stands b (known b g1) g1.opened.items s → ShowsName (known b g2) m (attributes_at out l x)) →
-    g2.opened.items ≡ g1.opened.items → g2.texts.items ≡ g1.texts.items → g.name ≡ m.sighting → ResolvesAs ShowsArgument b g0 g2 t g
-shows-reference b g0 g1 g2 t x m g proper e r named opened texts same = record {
+    g2.opened.items ≡ g1.opened.items → g2.texts.items ≡ g1.texts.items → g2.touched.items ≡ g1.touched.items → g.name ≡ m.sighting → ResolvesAs ShowsArgument b g0 g2 t g
+shows-reference b g0 g1 g2 t x m g proper e r named opened texts touched same = record {
   shows = λ out l s sees stands.
       let l1 = first_place l kind.Ref (x ∷ []) in
       let n = node_at out l t in
@@ -139,12 +145,16 @@ shows-reference b g0 g1 g2 t x m g proper e r named opened texts same = record {
       let shown = named out l1 s first refl (stands-kept b g0 g1 s r.opened r.texts stands) in
       let none : is_width (attributes_at out l t).kind ≡ false = ap is_width (at-kind out l t ∙ kind-form t (form.Ref x) e) in
       record {
-        at = subst (λ (k : Known). ShowsNode k g.at (attributes_at out l t)) (sym (known-kept b g1 g2 texts)) (r.shows out l s sees stands);
+        at = ShowsNode-grows (known b g1) (known b g2) g.at (attributes_at out l t) (known-grows b g1 g2 (begins-kept g1.texts.items g2.texts.items texts)) (r.shows out l s sees stands);
         name = λ is. subst (λ (q : Node). ShowsFound (known b g2) (lowered q.at.word) g.name q.at.found) (sym one)
             (subst (λ (y : Sighting). ShowsFound (known b g2) (lowered (attributes_at out l1 x).word) y (attributes_at out l1 x).found) (sym same) shown.found);
         first = λ is. absurd (false-true _ none is);
         second = λ is. absurd (false-true _ none is);
       };
+  touched = λ out l s sees stands.
+      let ws = (attributes_at out l t).touches in
+      subst (λ (vs : List Variable). Logs (known b g2) g0.touched.items vs ws) (sym touched)
+      (Logs-grows (known b g1) (known b g2) g0.touched.items g1.touched.items ws (known-grows b g1 g2 (begins-kept g1.texts.items g2.texts.items texts)) (r.touched out l s sees stands));
   opened = opened ∙ r.opened;
-  texts = texts ∙ r.texts;
+  texts = subst (Begins g0.texts.items) (sym texts) r.texts;
 }

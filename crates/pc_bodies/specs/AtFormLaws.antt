@@ -1,7 +1,7 @@
 -- What is found at a node, from its form and what is found at its kids.
-use Rattle.std.specs.Prelude.{◌≡◌, ℕ, List, [], ◌∷◌}
+use Rattle.std.specs.Prelude.{◌≡◌, ℕ, List}
 use Rattle.std.proofs.Common.{refl, ap, sym, ◌∙◌}
-use Rattle.pc_syntax.specs.Plain.{Forest, Plain, forest_of, kids_of}
+use Rattle.pc_syntax.specs.Plain.{Plain, kids_of}
 use Rattle.pc_syntax.specs.WellFormed.{IsProper}
 use Rattle.pc_syntax.specs.declared.kind.Kind.{Kind}
 use Rattle.pc_forms.specs.Form.{PlainForm, form_from, form_of, nothing}
@@ -14,11 +14,9 @@ use Rattle.pc_forms.specs.declared.operator.MulOperator.{MulOperator}
 use Rattle.pc_forms.specs.declared.operator.AddOperator.{AddOperator}
 use Rattle.pc_forms.specs.declared.operator.RelOperator.{RelOperator}
 use Rattle.pc_forms.specs.declared.form.Form.TheVariants as form
-use Rattle.pc_rules.specs.Attributes.{Attributes, Node, nodes, missing}
-use Rattle.pc_rules.specs.Decorated.{seen, rule, rule_of, with_kind}
+use Rattle.pc_rules.specs.Decorated.{seen, rule}
 use Rattle.pc_rules.specs.Meanings.{Local, Outside}
-use Rattle.pc_rules.specs.Places.{inner}
-use Rattle.pc_environment.specs.Decorating.{attributes_at, below_at, place_behind, marks_of}
+use Rattle.pc_environment.specs.Decorating.{attributes_at, marks_of}
 use Rattle.pc_environment.specs.DecoratingLaws.{at-kids}
 use Rattle.pc_bodies.specs.NodesAt.{first_place, found_at}
 

@@ -1,13 +1,12 @@
 -- What pointers lead to in a statement part.
-use Rattle.std.specs.Prelude.{◌≡◌, ℕ, List, true, Option, Some, None}
-use Rattle.std.proofs.Common.{refl, ap, sym, subst}
+use Rattle.std.specs.Prelude.{◌≡◌, List, true, Option, Some, None}
+use Rattle.std.proofs.Common.{ap, sym, subst}
 use Rattle.pc_syntax.specs.Plain.{Nil, Cons, Plain}
 use Rattle.pc_syntax.specs.WellFormed.{IsProper}
 use Rattle.pc_types.specs.Domains.{domain_in}
 use Rattle.pc_types.specs.Rows.{seen}
-use Rattle.pc_types.specs.Shapes.{Domain, PointerType, Typed, Shape}
+use Rattle.pc_types.specs.Shapes.{Domain, Typed, Shape}
 use Rattle.pc_types.specs.declared.operand.Operand.{Operand}
-use Rattle.pc_rules.specs.Attributes.{Attributes}
 use Rattle.pc_rules.specs.Decorated.{decorate}
 use Rattle.pc_rules.specs.Meanings.{Local, Outside, Found}
 use Rattle.pc_environment.specs.Decorating.{attributes_at}

@@ -2,6 +2,7 @@ pub mod NodesAt
 pub mod AtFormLaws
 pub mod Resolved
 pub mod BodyLaws
+pub mod DeclarationLaws
 pub mod SeesLaws
 pub mod NameLaws
 pub mod RowsLaws
@@ -11,3 +12,4 @@ pub mod LeadLaws
 pub mod Held
 pub mod MemberLaws
 pub mod ArgumentLaws
+pub mod CallLaws

@@ -1,6 +1,6 @@
 -- Lists of a statement part, and the places of names that aren't used: what stands there.
-use Rattle.std.specs.Prelude.{◌≡◌, ℕ, Bool, true, false, List, [], ◌∷◌, Option, Some, slice_get, take, zero, suc}
-use Rattle.std.proofs.Common.{refl, ap, sym, ◌∙◌, subst}
+use Rattle.std.specs.Prelude.{◌≡◌, ℕ, true, false, List, [], ◌∷◌, Some, slice_get, take, zero, suc}
+use Rattle.std.proofs.Common.{refl, ap, ◌∙◌, subst}
 use Rattle.pc_syntax.specs.Classes.{has, is_name, is_expression}
 use Rattle.pc_syntax.specs.Plain.{Plain, kids_of}
 use Rattle.pc_syntax.specs.WellFormed.{IsProper}
@@ -13,7 +13,7 @@ use Rattle.pc_forms.specs.FormClasses.{Every, HasKids}
 use Rattle.pc_forms.specs.FormKids.{kids_in}
 use Rattle.pc_forms.specs.FormLaws.{kids_in-form_of, kind_in-form_of, classes-form_of}
 use Rattle.pc_rules.specs.Attributes.{Attributes}
-use Rattle.pc_rules.specs.Decorated.{Seen, unseen, seen, rule, with_kind, name_rule, hole_rule}
+use Rattle.pc_rules.specs.Decorated.{seen, rule}
 use Rattle.pc_rules.specs.Meanings.{Local, Outside}
 use Rattle.pc_environment.specs.Decorating.{attributes_at, below_at}
 use Rattle.pc_environment.specs.DecoratingLaws.{at-node}
@@ -37,6 +37,16 @@ a-hole out l t k e is = cc
 -- a name, or a hole in its place, has a hole where it is one
 pub field-hole : (out : Outside) (l : Local) (t : Plain) → is_name t.kind ≡ true → (attributes_at out l t).hole ≡ is_hole t.kind
 field-hole out l t is = a-hole out l t t.kind refl is
+
+a-name : (out : Outside) (l : Local) (t : Plain) (k : Kind) → t.kind ≡ k → is_name k ≡ true → (attributes_at out l t).touches ≡ []
+unfolding rule
+a-name out l t kind.Name e is = ap (λ (a : Attributes). a.touches) (at-node out l t) ∙ (λ i. (rule l (e i) t.word (seen out l (e i) t.word) (below_at out l t)).touches)
+a-name out l t (kind.Hole s) e is = ap (λ (a : Attributes). a.touches) (at-node out l t) ∙ (λ i. (rule l (e i) t.word (seen out l (e i) t.word) (below_at out l t)).touches)
+a-name out l t k e is = cc
+
+-- a name, or a hole in its place, touches no variable by itself
+pub name-touches : (out : Outside) (l : Local) (t : Plain) → is_name t.kind ≡ true → (attributes_at out l t).touches ≡ []
+name-touches out l t is = a-name out l t t.kind refl is
 
 -- the first nodes of a row stand in a statement part, if all do
 pub take-body : (n : ℕ) (ts : List Plain) → Every (λ u. is_body u.kind ≡ true) ts → Every (λ u. is_body u.kind ≡ true) (take n ts)

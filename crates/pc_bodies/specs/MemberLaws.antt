@@ -1,5 +1,5 @@
 -- Members of a set constructor: lemmas.
-use Rattle.std.specs.Prelude.{◌≡◌, ℕ, ◌+◌, Bool, true, false, List, [], ◌∷◌, Option, Some, slice_get, get_or, sum_by}
+use Rattle.std.specs.Prelude.{◌≡◌, ℕ, ◌+◌, Bool, true, false, List, [], ◌∷◌, Some, slice_get, get_or, sum_by}
 use Rattle.std.proofs.Common.{refl, ap, sym, ◌∙◌, subst}
 use Rattle.pc_syntax.specs.Classes.{has, is_member}
 use Rattle.pc_syntax.specs.Plain.{Plain, kids_of}
@@ -8,23 +8,26 @@ use Rattle.pc_syntax.specs.declared.class.Class.TheVariants as class
 use Rattle.pc_syntax.specs.declared.kind.Kind.{Kind}
 use Rattle.pc_syntax.specs.declared.kind.Kind.TheVariants as kind
 use Rattle.pc_forms.specs.Form.{PlainForm, form_of}
-use Rattle.pc_forms.specs.FormClasses.{Every, HasKids}
+use Rattle.pc_forms.specs.FormClasses.{HasKids}
 use Rattle.pc_forms.specs.FormKids.{kids_in}
 use Rattle.pc_forms.specs.FormLaws.{kids_in-form_of, kind_in-form_of, classes-form_of, size-form_of}
 use Rattle.pc_forms.specs.declared.form.Form.TheVariants as form
-use Rattle.pc_rules.specs.Attributes.{Attributes, Node, nodes, missing, kids_below, first_below, second_below}
+use Rattle.pc_rules.specs.Attributes.{Attributes, Node, nodes, missing, first_below, second_below}
 use Rattle.pc_rules.specs.HandedOn.{any_hole}
 use Rattle.pc_rules.specs.Meanings.{Local, Outside}
 use Rattle.pc_rules.specs.SetConstructors.{is_span}
 use Rattle.pc_environment.specs.Decorating.{attributes_at, below_at, place_behind, marks_of}
 use Rattle.pc_environment.specs.RowLaws.{sees-behind}
 use Rattle.pc_environment.specs.Sight.{is_body}
-use Rattle.pc_expression_rules.specs.Members.{HandsOn, AllHandOn}
+use Rattle.pc_expression_rules.specs.Members.{AllHandOn}
 use Rattle.pc_facts.specs.Known.{Known}
 use Rattle.pc_facts.specs.Shows.{AllShow, ShowsMember, ShowsNode}
 use Rattle.pc_facts.specs.declared.facts.Facts.{Facts}
 use Rattle.pc_facts.specs.declared.facts.Member.{Member}
 use Rattle.pc_facts.specs.declared.facts.Member.TheVariants as member
+use Rattle.pc_call_rules.specs.Parameters.{Logs}
+use Rattle.pc_growth.specs.Grows.{Grows}
+use Rattle.pc_growth.specs.GrowsLaws.{Begins-then, ShowsNode-grows, ShowsMember-grows}
 use Rattle.pc_bodies.specs.declared.body.Body.{Body}
 use Rattle.pc_bodies.specs.declared.body.Going.{Going}
 use Rattle.pc_bodies.specs.AtFormLaws.{at-form, kind-form}
@@ -34,7 +37,7 @@ use Rattle.pc_bodies.specs.ListLaws.{every-at}
 use Rattle.pc_bodies.specs.NodesAt.{node_at, first_place}
 use Rattle.pc_bodies.specs.Resolved.{known, ResolvesAs, Resolves}
 use Rattle.pc_bodies.specs.RowsLaws.{kids-of-kind, at-kind}
-use Rattle.pc_bodies.specs.SeesLaws.{sees-first, known-kept, stands-kept, classes-at}
+use Rattle.pc_bodies.specs.SeesLaws.{sees-first, known-grows, stands-kept, logs-kids, classes-at}
 
 -- the list of members has its kind
 pub members-kind : (k : Kind) → has class.Members k ≡ true → k ≡ kind.Members
@@ -72,7 +75,7 @@ shows-span b g0 g1 g2 t x y f1 f2 proper e r1 r2 = record {
       let kids = span-kids out l t x y proper e in
       let one : first_below n ≡ node_at out l1 x = ap (λ (ns : List Node). get_or ns 0 missing) kids in
       let two : second_below n ≡ node_at out l2 y = ap (λ (ns : List Node). get_or ns 1 missing) kids in
-      let shows_one : ShowsNode (known b g2) f1 (attributes_at out l1 x) = subst (λ (k : Known). ShowsNode k f1 (attributes_at out l1 x)) (sym (known-kept b g1 g2 r2.texts)) (r1.shows out l1 s first stands) in
+      let shows_one : ShowsNode (known b g2) f1 (attributes_at out l1 x) = ShowsNode-grows (known b g1) (known b g2) f1 (attributes_at out l1 x) (known-grows b g1 g2 r2.texts) (r1.shows out l1 s first stands) in
       let shows_two : ShowsNode (known b g2) f2 (attributes_at out l2 y) = r2.shows out l2 s (sees-behind out l1 s x body first) (stands-kept b g0 g1 s r1.opened r1.texts stands) in (
         (
           ap is_span (at-kind out l t ∙ kind-form t (form.Span x y) e),
@@ -81,8 +84,12 @@ shows-span b g0 g1 g2 t x y f1 f2 proper e r1 r2 = record {
         ),
         λ is. ap (λ (a : Attributes). a.hole) (at-form out l t (form.Span x y) proper e) ∙ sym (ap (λ (m : Node). any_hole (m ∷ second_below n ∷ [])) one ∙ ap (λ (m : Node). any_hole (node_at out l1 x ∷ m ∷ [])) two),
       );
+  touched = λ out l s sees stands.
+      let body : is_body x.kind ≡ true = class-body class.Expression x.kind refl (classes-at t (form.Span x y) proper e).0 in
+      subst (Logs (known b g2) g0.touched.items g2.touched.items) (sym (ap (λ (a : Attributes). a.touches) (at-form out l t (form.Span x y) proper e)))
+      (logs-kids b g0 g1 g2 x y kind.Span refl refl body r1.opened r1.texts r2.texts r1.touched r2.touched out l s sees stands);
   opened = r2.opened ∙ r1.opened;
-  texts = r2.texts ∙ r1.texts;
+  texts = Begins-then g0.texts.items g1.texts.items g2.texts.items r1.texts r2.texts;
 }
 
 no-span : (k : Kind) → (k ≡ kind.Span → ⊥) → is_span k ≡ false
@@ -99,9 +106,14 @@ shows-value b g0 g1 t f isnt r = record {
   shows = λ out l s sees stands.
       let none : is_span (attributes_at out l t).kind ≡ false = ap is_span (at-kind out l t) ∙ no-span t.kind isnt in
       ((none, r.shows out l s sees stands), λ is. absurd (false-true _ none is));
+  touched = r.touched;
   opened = r.opened;
   texts = r.texts;
 }
+
+-- what is held of a member stays as more is numbered
+pub ShowsHeld-grows : (a c : Known) (m : Member) (n : Node) → Grows a c → ShowsHeld a m n → ShowsHeld c m n
+ShowsHeld-grows a c m n g h = (ShowsMember-grows a c m n g h.0, h.1)
 
 -- what is held of members, apart
 pub all-held : (k : Known) (ms : List Member) (ns : List Node) → AllShow (ShowsHeld k) ms ns → AllShow (ShowsMember k) ms ns × AllHandOn ns

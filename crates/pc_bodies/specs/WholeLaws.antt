@@ -1,6 +1,6 @@
 -- All nodes below a node of a statement part stand in it.
-use Rattle.std.specs.Prelude.{◌≡◌, ◌≤◌, ℕ, Bool, true, false, ◌&&◌, List, [], ◌∷◌, length, Option, Some, None, if◌then◌else◌}
-use Rattle.std.proofs.Common.{refl, ap, sym, ◌∙◌, subst, arith}
+use Rattle.std.specs.Prelude.{◌≡◌, ℕ, Bool, true, false, ◌&&◌, List, [], ◌∷◌, length, Some, None, if◌then◌else◌}
+use Rattle.std.proofs.Common.{refl, subst, arith}
 use Rattle.std.proofs.lemmas.Bool.{and_parts}
 use Rattle.pc_syntax.specs.Classes.{has}
 use Rattle.pc_syntax.specs.Plain.{Forest, Nil, Cons, Plain, forest_of, kids_of}
@@ -11,10 +11,9 @@ use Rattle.pc_syntax.specs.declared.class.Class.{Class}
 use Rattle.pc_syntax.specs.declared.kind.Kind.{Kind}
 use Rattle.pc_syntax.specs.declared.kind.Kind.TheVariants as kind
 use Rattle.pc_forms.specs.CountLaws.{fixed_length}
-use Rattle.pc_forms.specs.FormClasses.{Every, HasKids, HasKidsIf, HasClasses, AllHave, fixed_count}
+use Rattle.pc_forms.specs.FormClasses.{Every, HasKids, HasKidsIf, HasClasses, fixed_count}
 use Rattle.pc_forms.specs.FormKids.{kids_in}
 use Rattle.pc_forms.specs.Form.{form_of}
-use Rattle.pc_forms.specs.FormKind.{kind_in}
 use Rattle.pc_forms.specs.FormLaws.{kids_in-form_of, kind_in-form_of, classes-form_of, by_form}
 use Rattle.pc_environment.specs.Sight.{is_body}
 use Rattle.pc_pointers.specs.Good.{AllBody}

@@ -223,9 +223,9 @@ fn arguments_of(
     Ok(found)
 }
 
-/// What is found at an argument of a call, which may have a width.
+/// What is found at an argument of a call, which may have a width. Only memory can fail.
 #[cycle(expressions)]
-fn argument(
+pub fn argument(
     alloc: Global,
     body: &Body,
     going: &mut Going,
@@ -270,4 +270,23 @@ fn argument(
             })
         }
     }
+}
+
+/// What is found at the arguments of a procedure statement. Only memory can fail.
+pub fn arguments(
+    alloc: Global,
+    body: &Body,
+    going: &mut Going,
+    list: &Tree,
+) -> Result<Vec<Argument>, AllocError>
+    requires block { body.now.block.0 < length body.now.names.now.chains }
+    requires list { has class.Args list.now.kind ≡ true }
+    ensures { IfOk result (λ gs. ResolveAs ShowsArgument body.now going.old going.new (kids_of list.now) gs.items) }
+{
+    let mut found = Vec::new(alloc);
+    for kid in list.kid_slice() {
+        let one = argument(alloc, body, going, kid)?;
+        found.push(one)?;
+    }
+    Ok(found)
 }

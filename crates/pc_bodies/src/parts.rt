@@ -32,7 +32,7 @@ pub(crate) fn with_width(alloc: Global, value: Facts, width: Facts) -> Result<Fa
 }
 
 /// The signature of the function that a name means, if it means one whose heading has neither an error nor a hole.
-pub(crate) fn function_signature(signatures: &[Signature], sighting: Sighting) -> Option<&Signature>
+pub fn function_signature(signatures: &[Signature], sighting: Sighting) -> Option<&Signature>
     ensures { (k : Known) (n : List ℕ) (f : Found) → k.signatures ≡ signatures.now → ShowsFound k n sighting f → ShowsRoutine k (option_copied result) (arguments.function_signature f) }
 {
     match sighting {
@@ -44,8 +44,21 @@ pub(crate) fn function_signature(signatures: &[Signature], sighting: Sighting) -
     }
 }
 
+/// The signature of the procedure that a name means, likewise.
+pub fn procedure_signature(signatures: &[Signature], sighting: Sighting) -> Option<&Signature>
+    ensures { (k : Known) (n : List ℕ) (f : Found) → k.signatures ≡ signatures.now → ShowsFound k n sighting f → ShowsRoutine k (option_copied result) (arguments.procedure_signature f) }
+{
+    match sighting {
+        Sighting::Here(declared) => match declared.class {
+            NameClass::Procedure => signature_at(signatures, declared.signature),
+            _ => None,
+        },
+        _ => None,
+    }
+}
+
 /// The signature with this number, if there is one.
-pub(crate) fn signature_at(signatures: &[Signature], id: Option<SignatureId>) -> Option<&Signature>
+pub fn signature_at(signatures: &[Signature], id: Option<SignatureId>) -> Option<&Signature>
     ensures { (k : Known) (r : Option Routine) → k.signatures ≡ signatures.now → ShowsSignatures k id r → ShowsRoutine k (option_copied result) r }
 {
     match id {
@@ -90,7 +103,7 @@ pub(crate) fn ends<'a>(node: &'a Tree) -> (Expression<'a>, Expression<'a>)
 }
 
 /// Whether a node is a hole.
-pub(crate) fn is_hole(node: &Tree) -> bool
+pub fn is_hole(node: &Tree) -> bool
     ensures { result ≡ sorts.is_hole node.now.kind }
 {
     matches!(node.kind(), Kind::Hole(_))
