@@ -1,0 +1,17 @@
+pub mod OpeningLaws
+pub mod TouchLaws
+pub mod Walked
+pub mod WalkLaws
+pub mod KindLaws
+pub mod Opens
+pub mod AccessLaws
+pub mod OpensLaws
+pub mod WithStatementLaws
+pub mod ForLaws
+pub mod StatementLaws
+pub mod ForStatementLaws
+pub mod ConstantLaws
+pub mod Labelled
+pub mod ArmLaws
+pub mod CaseStatementLaws
+pub mod ListKinds
