@@ -1,0 +1,10 @@
+pub mod Signed
+pub mod Standing
+pub mod SignedLaws
+pub mod SigningLaws
+pub mod OutsideLaws
+pub mod DefinesLaws
+pub mod OwnsLaws
+pub mod StartLaws
+pub mod PartLaws
+pub mod BodyLaws
