@@ -9,6 +9,10 @@ pub mod Declared
 pub mod FieldTypes
 pub mod TypeAt
 pub mod TypeText
+pub mod AgreesLaws
+pub mod Pieces
+pub mod Structures
+pub mod StructuresLaws
 pub mod Shown
 pub mod ErrorsText
 pub mod DeclsText

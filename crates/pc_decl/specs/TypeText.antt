@@ -1,5 +1,5 @@
 -- The text of a type: its expanded form on one line, with the spaces of the layout.
-use Rattle.std.specs.Prelude.{ℕ, Bool, true, false, ◌==◌, if◌then◌else◌, List, [], ◌∷◌, ◌++◌, Option, Some, None, codes, ℤ, zero, suc, nat_abs}
+use Rattle.std.specs.Prelude.{ℕ, Bool, true, false, ◌==◌, if◌then◌else◌, List, [], ◌∷◌, ◌++◌, Option, Some, None, codes, ℤ, zero, suc, nat_abs, ◌%◌}
 use Rattle.std.specs.Fmt.{signed_decimal}
 use Rattle.pc_types.specs.Expanded.{Ty, IntTy, TruthTy, LetterTy, NamedTy, SubTy, ArrayTy, RecordTy, SetTy, PointerTy, NoTy, FieldTys, LastTy, FieldTy}
 
@@ -23,10 +23,10 @@ character_text c = if c == 39 then codes "''''" else 39 ∷ c ∷ 39 ∷ []
 abbrev pub truth_text : ℕ → List ℕ
 truth_text n = if n == 0 then codes "false" else codes "true"
 
--- the constant of a type with this ordinal
+-- the constant of a type with this ordinal; that of a character is a byte
 abbrev pub constant_text : Ty → ℤ → List ℕ
 constant_text TruthTy i = truth_text (nat_abs i)
-constant_text LetterTy i = character_text (nat_abs i)
+constant_text LetterTy i = character_text (nat_abs i % 256)
 constant_text (NamedTy ns) i = name_with (nat_abs i) ns
 constant_text t i = signed_decimal i
 
