@@ -1,0 +1,15 @@
+pub mod Carrying
+pub mod Parts
+pub mod KnownLaws
+pub mod NodeLaws
+pub mod RuleLaws
+pub mod DenoterLaws
+pub mod TypeLaws
+pub mod PartLaws
+pub mod VariableLaws
+pub mod BehindLaws
+pub mod StartLaws
+pub mod KindLaws
+pub mod InsideLaws
+pub mod ParameterLaws
+pub mod RoutineLaws
