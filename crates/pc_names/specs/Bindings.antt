@@ -27,6 +27,10 @@ completed s d = record s { known = Some (unwrap_or s.known d) }
 abbrev pub declared : Slot → DeclarationId → Slot
 declared s d = if s.passed then s else passed (completed s d)
 
+-- the declaration of the name is this one from now on, whichever it was
+abbrev pub retold : Slot → DeclarationId → Slot
+retold s d = record s { known = Some d }
+
 -- a complete declaration of the block, if there is one, and else the other meaning
 abbrev pub here_or : Option DeclarationId → Bound → Bound
 here_or (Some d) other = Here d

@@ -3,7 +3,7 @@
 ghost use Rattle.std.specs.Prelude.{◌≡◌, ◌<◌, ℕ, List, [], ◌∷◌, length, Some, slice_get, IfOk, OnOk, OnErr};
 ghost use Rattle.std.specs.Option.{ForSome, option_map};
 ghost use Rattle.pc_syntax.specs.Words.{lowered};
-ghost use Rattle.pc_names.specs.Bindings.{empty_slot, slot_in, announced, passed, completed, declared};
+ghost use Rattle.pc_names.specs.Bindings.{empty_slot, slot_in, announced, passed, completed, declared, retold};
 ghost use Rattle.pc_names.specs.Numbers as numbers;
 ghost use Rattle.pc_names.specs.Numbers.{with_name, AreDistinct};
 ghost use Rattle.pc_names.specs.Chains.{chain_of, chain_around, with_block, found, AreBelow};
@@ -134,6 +134,22 @@ impl Names {
         ensures failure { OnErr result (self.new ≡ self.old) }
     {
         let slot = self.slots.slot(block.0, name.0).completed(declaration);
+        self.slots.bind(block.0, name.0, slot)
+    }
+
+    /// The declaration of the name in the block is this one from now on, whichever it was. Only memory can fail.
+    pub fn retell(
+        &mut self,
+        block: BlockId,
+        name: NameId,
+        declaration: DeclarationId,
+    ) -> Result<(), AllocError>
+        requires block { block.0 < length self.old.chains }
+        requires name { name.0 < length self.old.texts }
+        ensures binding { OnOk result (Rebinds self.old self.new block.0 name.0 (retold (slot_in self.old.slots block.0 name.0) declaration)) }
+        ensures failure { OnErr result (self.new ≡ self.old) }
+    {
+        let slot = self.slots.slot(block.0, name.0).retold(declaration);
         self.slots.bind(block.0, name.0, slot)
     }
 

@@ -58,6 +58,16 @@ impl Slot {
         }
     }
 
+    /// The declaration is this one, whichever it was.
+    pub fn retold(self, declaration: DeclarationId) -> Slot
+        ensures { result ≡ bindings.retold self declaration }
+    {
+        Slot {
+            known: Some(declaration),
+            ..self
+        }
+    }
+
     /// The name stands before, and its declaration is complete unless the name stood before already.
     pub fn declared(self, declaration: DeclarationId) -> Slot
         ensures { result ≡ bindings.declared self declaration }
