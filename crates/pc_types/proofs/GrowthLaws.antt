@@ -4,7 +4,7 @@ use Rattle.std.proofs.lemmas.List.{get_or_append_left, length-map, map-append}
 use Rattle.pc_types.specs.Shapes.{Owner, Definition, Shape, PointerType, Domain}
 use Rattle.pc_types.specs.Sizes.{cells, levels}
 use Rattle.pc_types.specs.Table.{Place, place_of, nobody, nowhere, numbered, definition_in, formed, shape_in, PartsThere, IsReady}
-use Rattle.pc_types.specs.Rows.{seen_owner, row_place, row_domain, row_shape, shapes_from, IsRow, AreRows, TargetThere, IsDomainRow, AreDomainRows, Kept, kept_owners, kept_places, kept_shapes, seen, IsInOrder, IsSized, BeginRequired}
+use Rattle.pc_types.specs.Rows.{seen_owner, row_place, row_domain, row_shape, shapes_from, IsRow, AreRows, TargetThere, IsDomainRow, AreDomainRows, Kept, kept_owners, kept_places, kept_shapes, seen, IsInOrder, IsSized, BeginRequired, BeginProgram}
 use Rattle.pc_types.specs.Growth.{GrowsBy, AddsOwner, AddsDomain}
 use Rattle.pc_types.specs.declared.form.Form.{Form}
 use Rattle.pc_types.specs.declared.form.Form.TheVariants as form
@@ -154,6 +154,7 @@ in_order-push k r h a s = record {
   rows_are = rows-push (kept_owners k) (kept_places k) [] k.rows r h.rows_are (ready-row k r a s);
   domains_are = domains-more (length k.owners) (length k.owners) (length k.rows) (length (k.rows ++ r ∷ [])) k.domains (omega arith) (omega (arith, length-append k.rows (r ∷ []))) h.domains_are;
   begins = begin-push k.rows r h.begins;
+  program = h.program;
 }
 
 pub seen-push : (k : Kept) (r : Row) → IsInOrder k → GrowsBy (seen k) (seen (with_row k r)) (shape_in (seen k) r.definition r.form)
@@ -210,11 +211,17 @@ owner-keeps k o h =
       places_more = omega (arith, ap (λ (ps : List Place). length ps) same);
     }
 
+-- the program stays the first owner
+begin-owner : (owners : List Written) (o : Written) → BeginProgram owners → BeginProgram (owners ++ o ∷ [])
+begin-owner [] o h = absurd h
+begin-owner (p ∷ owners) o h = h
+
 pub in_order-owner : (k : Kept) (o : Written) → IsInOrder k → IsInOrder (with_owner k o)
 in_order-owner k o h = record {
   rows_are = rows-keep (kept_owners k) (kept_owners (with_owner k o)) (kept_places k) (kept_places (with_owner k o)) [] k.rows (owner-keeps k o h) h.rows_are;
   domains_are = domains-more (length k.owners) (length (k.owners ++ o ∷ [])) (length k.rows) (length k.rows) k.domains (omega (arith, length-append k.owners (o ∷ []))) (omega arith) h.domains_are;
   begins = h.begins;
+  program = begin-owner k.owners o h.program;
 }
 
 pub seen-owner : (k : Kept) (o : Written) → IsInOrder k → AddsOwner (seen k) (seen (with_owner k o)) (seen_owner o)
@@ -250,6 +257,7 @@ in_order-domain k d h i = record {
   rows_are = rows-keep (kept_owners k) (kept_owners k) (kept_places k) (kept_places (with_domain k d)) [] k.rows (domain-keeps k d) h.rows_are;
   domains_are = domains-push (length k.owners) (length k.rows) k.domains d h.domains_are i;
   begins = h.begins;
+  program = h.program;
 }
 
 pub seen-domain : (k : Kept) (d : DomainRow) → IsInOrder k → AddsDomain (seen k) (seen (with_domain k d)) (row_domain (seen k).owners (seen k).shapes d)

@@ -1,8 +1,8 @@
 -- The required types stand first.
-use Rattle.std.proofs.Common.{◌≡◌, ℕ, List, [], ◌∷◌, ◌++◌, Some, slice_get, refl, ◌∙◌, ap, arith}
+use Rattle.std.proofs.Common.{◌≡◌, ◌<◌, ℕ, List, [], ◌∷◌, ◌++◌, Some, slice_get, get_or, length, map, refl, ◌∙◌, ap, arith}
 use Rattle.pc_types.specs.Shapes.{Owner, Shape}
 use Rattle.pc_types.specs.Table.{Table, Place, definition_in, numbered, formed, shape_in, nobody, HasRequired}
-use Rattle.pc_types.specs.Rows.{row_shape, Kept, seen, IsInOrder, BeginRequired, IsRequiredRow}
+use Rattle.pc_types.specs.Rows.{row_shape, Kept, seen, seen_owner, IsInOrder, BeginRequired, BeginProgram, IsRequiredRow}
 use Rattle.pc_types.specs.Growth.{opening}
 use Rattle.pc_types.specs.declared.form.TypeId.{TypeId}
 use Rattle.pc_types.specs.declared.form.Form.{Form}
@@ -106,3 +106,12 @@ begins-required k h =
       nil = shape-at k (record { 0 = 3 }) f.d form.Nil h f.at_d f.is_d;
       there = omega (arith, slice_get_below k.rows 3 f.d f.at_d, length-shapes k);
     }
+
+-- the first owner is the program
+pub begins-program : (k : Kept) → IsInOrder k → (get_or (seen k).owners 0 nobody ≡ nobody) × (0 < length (seen k).owners)
+unfolding seen
+begins-program k h = by k.owners h.program
+  where
+    by : (os : List Written) → BeginProgram os → (get_or (map seen_owner os) 0 nobody ≡ nobody) × (0 < length (map seen_owner os))
+    by [] h = absurd h
+    by (o ∷ os) h = (h, omega arith)

@@ -62,6 +62,7 @@ in_order-target k i t h g = record {
   rows_are = subst (λ (ps : List Place). AreRows (kept_owners k) ps [] k.rows) (sym (places-target (kept_owners k) k.domains i t)) h.rows_are;
   domains_are = rows-target (length k.owners) (length k.rows) k.domains i t h.domains_are (subst (λ (n : ℕ). TargetThere n (option_map (λ i. i.0) t)) (length-shapes k) g);
   begins = h.begins;
+  program = h.program;
 }
 
 pub seen-target : (k : Kept) (i : ℕ) (t : Option TypeId) → Retargets (seen k) (seen (retarget k i t)) i (option_map (numbered (seen k).shapes) t)

@@ -80,6 +80,11 @@ abbrev pub BeginRequired : List Row → Type 0
 BeginRequired (a ∷ b ∷ c ∷ d ∷ rows) = (a.form ≡ form.Integer) × (b.form ≡ form.Boolean) × (c.form ≡ form.Char) × (d.form ≡ form.Nil)
 BeginRequired _ = ⊥
 
+-- the first owner is the program
+abbrev pub BeginProgram : List Written → Type 0
+BeginProgram [] = ⊥
+BeginProgram (o ∷ owners) = seen_owner o ≡ Keyed []
+
 -- the row of a required type of this form
 pub record IsRequiredRow (f : Form) (r : Row) : Type 0 where
   pub is : r.form ≡ f
@@ -92,6 +97,7 @@ pub record IsInOrder (k : Kept) : Type 0 where
   pub rows_are : AreRows (kept_owners k) (kept_places k) [] k.rows
   pub domains_are : AreDomainRows (length k.owners) (length k.rows) k.domains
   pub begins : BeginRequired k.rows
+  pub program : BeginProgram k.owners
 
 -- what the row at a number says of the table
 pub record StandsFor (table : Table) (i : TypeId) (r : Row) : Type 0 where

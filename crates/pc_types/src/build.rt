@@ -26,6 +26,16 @@ impl Types {
         self.owners.as_slice().len()
     }
 
+    /// The number of the program as an owner.
+    pub fn program(&self) -> OwnerId
+        ensures is { get_or (seen self.now).owners result.0 nobody ≡ nobody }
+        ensures there { result.0 < length (seen self.now).owners }
+        ensures number { result ≡ OwnerId.PROGRAM }
+    {
+        let _ = self.owners.as_slice();
+        OwnerId::PROGRAM
+    }
+
     /// How many domains there are.
     pub fn count_domains(&self) -> usize
         ensures { result ≡ length (seen self.now).domains }
