@@ -94,7 +94,7 @@ Grows-texts k ts g = record {
 pub Grows-extends : (k : Known) (t : Table) → Extends k.table t → Grows k (record k { table = t })
 Grows-extends k t g = record {
   shapes = record { more = g.more_shapes; is = g.shapes };
-  owners = record { more = g.more_owners; is = g.owners };
+  owners = record { more = []; is = g.owners ∙ sym (append-nil k.table.owners) };
   names = Begins-same k.names;
   texts = Begins-same k.texts;
   signatures = Begins-same k.signatures;

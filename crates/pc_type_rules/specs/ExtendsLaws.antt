@@ -1,10 +1,10 @@
 -- What facts show, they show of a table that has more.
-use Rattle.std.proofs.Common.{◌≡◌, ℕ, ◌<◌, List, [], ◌∷◌, ◌++◌, ◌+◌, Option, Some, None, get_or, length, option_map, refl, sym, ◌∙◌, ap, arith, append_assoc, append-nil, length-append}
+use Rattle.std.proofs.Common.{◌≡◌, ℕ, ◌<◌, List, [], ◌∷◌, ◌++◌, ◌+◌, Option, Some, None, get_or, length, option_map, refl, sym, ◌∙◌, ap, subst, arith, append_assoc, append-nil, length-append}
 use Rattle.std.proofs.lemmas.List.{get_or_append_left}
 use Rattle.std.specs.Option.{ForSome}
 use Rattle.pc_types.specs.Shapes.{Owner, Shape, Domain, Definition, NoMembers, MembersType, Typed}
 use Rattle.pc_types.specs.Table.{Table, numbered, shape_at, IsThere, nobody, definition_in}
-use Rattle.pc_types.specs.Growth.{GrowsBy, AddsOwner, AddsDomain}
+use Rattle.pc_types.specs.Growth.{GrowsBy, AddsDomain}
 use Rattle.pc_types.specs.declared.form.TypeId.{TypeId}
 use Rattle.pc_types.specs.declared.form.Definition.{Definition as Written}
 use Rattle.pc_types.specs.declared.operand.Operand.{Operand}
@@ -34,8 +34,7 @@ pub Extends-same : (t : Table) → Extends t t
 Extends-same t = record {
   more_shapes = [];
   shapes = sym (append-nil t.shapes);
-  more_owners = [];
-  owners = sym (append-nil t.owners);
+  owners = refl;
   more_domains = [];
   domains = sym (append-nil t.domains);
 }
@@ -46,8 +45,7 @@ pub Extends-then : (a b c : Table) → Extends a b → Extends b c → Extends a
 Extends-then a b c f g = record {
   more_shapes = f.more_shapes ++ g.more_shapes;
   shapes = g.shapes ∙ ap (λ (s : List Shape). s ++ g.more_shapes) f.shapes ∙ append_assoc a.shapes f.more_shapes g.more_shapes;
-  more_owners = f.more_owners ++ g.more_owners;
-  owners = g.owners ∙ ap (λ (s : List Owner). s ++ g.more_owners) f.owners ∙ append_assoc a.owners f.more_owners g.more_owners;
+  owners = g.owners ∙ f.owners;
   more_domains = f.more_domains ++ g.more_domains;
   domains = g.domains ∙ ap (λ (s : List Domain). s ++ g.more_domains) f.domains ∙ append_assoc a.domains f.more_domains g.more_domains;
 }
@@ -56,17 +54,6 @@ pub Extends-grown : (a b : Table) (t : Shape) → GrowsBy a b t → Extends a b
 Extends-grown a b t g = record {
   more_shapes = t ∷ [];
   shapes = g.shapes;
-  more_owners = [];
-  owners = g.owners ∙ sym (append-nil a.owners);
-  more_domains = [];
-  domains = g.domains ∙ sym (append-nil a.domains);
-}
-
-pub Extends-owner : (a b : Table) (o : Owner) → AddsOwner a b o → Extends a b
-Extends-owner a b o g = record {
-  more_shapes = [];
-  shapes = g.shapes ∙ sym (append-nil a.shapes);
-  more_owners = o ∷ [];
   owners = g.owners;
   more_domains = [];
   domains = g.domains ∙ sym (append-nil a.domains);
@@ -76,8 +63,7 @@ pub Extends-domain : (a b : Table) (d : Domain) → AddsDomain a b d → Extends
 Extends-domain a b d g = record {
   more_shapes = [];
   shapes = g.shapes ∙ sym (append-nil a.shapes);
-  more_owners = [];
-  owners = g.owners ∙ sym (append-nil a.owners);
+  owners = g.owners;
   more_domains = d ∷ [];
   domains = g.domains;
 }
@@ -97,10 +83,10 @@ numbered-extends a b i g h = front-at a.shapes g.more_shapes b.shapes NoMembers 
 
 -- an owner by its number
 pub owner_there-extends : (a b : Table) (i : ℕ) → Extends a b → i < length a.owners → i < length b.owners
-owner_there-extends a b i g h = front-longer a.owners g.more_owners b.owners i g.owners h
+owner_there-extends a b i g h = subst (λ (os : List Owner). i < length os) (sym g.owners) h
 
 pub owner-extends : (a b : Table) (i : ℕ) → Extends a b → i < length a.owners → get_or b.owners i nobody ≡ get_or a.owners i nobody
-owner-extends a b i g h = front-at a.owners g.more_owners b.owners nobody i g.owners h
+owner-extends a b i g h = ap (λ (os : List Owner). get_or os i nobody) g.owners
 
 pub definition_in-extends : (a b : Table) (d : Written) → Extends a b → d.owner.0 < length a.owners → definition_in b.owners d ≡ definition_in a.owners d
 definition_in-extends a b d g h =
