@@ -15,72 +15,72 @@ use Rattle.pc_rules.specs.Entries.{note_if}
 use Rattle.pc_facts.specs.Shows.{ShowsType, shape_of}
 use Rattle.pc_access_rules.specs.Accessed.{is_no_pointer}
 use Rattle.pc_access_rules.specs.AccessedLaws.{no_pointer-judged}
-use Rattle.pc_access_rules.specs.Pointers.{target_in, target_of, LeadsAsIn, AreFound}
+use Rattle.pc_access_rules.specs.Pointers.{Targets, target_in, target_of, LeadsTo, AreTold}
 use Rattle.pc_access_rules.proofs.TypeSteps.{begun, shape-in, shown}
 
-pub target-found : (t : Table) (s : Shape) (x : DomainId) → Some (place_at t x) ≡ domain_place s → AreFound t → (domain_at t x).shape ≡ target_in t.domains s
-target-found t (PointerType d o n) x e found =
+pub target-found : (targets : Targets) (t : Table) (s : Shape) (x : DomainId) → Some (place_at t x) ≡ domain_place s → AreTold targets t → (domain_at t x).shape ≡ target_in targets s
+target-found targets t (PointerType d o n) x e found =
     let place = same_Some (place_at t x) (record { owner = o; name = n }) e in
-    sym (found x) ∙ ap (λ (p : Place). domain_in t.domains p.owner p.name) place
-target-found t IntegerType x e found = absurd (none-some _ (sym e))
-target-found t BooleanType x e found = absurd (none-some _ (sym e))
-target-found t CharType x e found = absurd (none-some _ (sym e))
-target-found t NilType x e found = absurd (none-some _ (sym e))
-target-found t NoMembers x e found = absurd (none-some _ (sym e))
-target-found t (MembersType m) x e found = absurd (none-some _ (sym e))
-target-found t (TextType n) x e found = absurd (none-some _ (sym e))
-target-found t (EnumeratedType d ns) x e found = absurd (none-some _ (sym e))
-target-found t (SubrangeType d h low high) x e found = absurd (none-some _ (sym e))
-target-found t (ArrayType d p i element) x e found = absurd (none-some _ (sym e))
-target-found t (RecordType d p fs) x e found = absurd (none-some _ (sym e))
-target-found t (SetType d p m) x e found = absurd (none-some _ (sym e))
+    sym (found x) ∙ ap (λ (p : Place). targets p.owner p.name) place
+target-found targets t IntegerType x e found = absurd (none-some _ (sym e))
+target-found targets t BooleanType x e found = absurd (none-some _ (sym e))
+target-found targets t CharType x e found = absurd (none-some _ (sym e))
+target-found targets t NilType x e found = absurd (none-some _ (sym e))
+target-found targets t NoMembers x e found = absurd (none-some _ (sym e))
+target-found targets t (MembersType m) x e found = absurd (none-some _ (sym e))
+target-found targets t (TextType n) x e found = absurd (none-some _ (sym e))
+target-found targets t (EnumeratedType d ns) x e found = absurd (none-some _ (sym e))
+target-found targets t (SubrangeType d h low high) x e found = absurd (none-some _ (sym e))
+target-found targets t (ArrayType d p i element) x e found = absurd (none-some _ (sym e))
+target-found targets t (RecordType d p fs) x e found = absurd (none-some _ (sym e))
+target-found targets t (SetType d p m) x e found = absurd (none-some _ (sym e))
 
-pub target-none : (t : Table) (s : Shape) → None ≡ domain_place s → target_in t.domains s ≡ None
-target-none t (PointerType d o n) e = absurd (none-some _ e)
-target-none t IntegerType e = refl
-target-none t BooleanType e = refl
-target-none t CharType e = refl
-target-none t NilType e = refl
-target-none t NoMembers e = refl
-target-none t (MembersType m) e = refl
-target-none t (TextType n) e = refl
-target-none t (EnumeratedType d ns) e = refl
-target-none t (SubrangeType d h low high) e = refl
-target-none t (ArrayType d p i element) e = refl
-target-none t (RecordType d p fs) e = refl
-target-none t (SetType d p m) e = refl
+pub target-none : (targets : Targets) (s : Shape) → None ≡ domain_place s → target_in targets s ≡ None
+target-none targets (PointerType d o n) e = absurd (none-some _ e)
+target-none targets IntegerType e = refl
+target-none targets BooleanType e = refl
+target-none targets CharType e = refl
+target-none targets NilType e = refl
+target-none targets NoMembers e = refl
+target-none targets (MembersType m) e = refl
+target-none targets (TextType n) e = refl
+target-none targets (EnumeratedType d ns) e = refl
+target-none targets (SubrangeType d h low high) e = refl
+target-none targets (ArrayType d p i element) e = refl
+target-none targets (RecordType d p fs) e = refl
+target-none targets (SetType d p m) e = refl
 
 with-shape : (ds : List Domain) (s : Option Shape) → shape_of (option_map (λ (s : Shape). let t : Typed = record { shape = s; domains = ds } in t) s) ≡ s
 with-shape ds None = refl
 with-shape ds (Some s) = refl
 
-domain-of : (ds es : List Domain) (s : Shape) → ((d : Definition) (o : Owner) (n : List ℕ) → s ≡ PointerType d o n → domain_in es o n ≡ domain_in ds o n) → shape_of (components.domain_of es s) ≡ target_in ds s
-domain-of ds es (PointerType d o n) leads = with-shape es (domain_in es o n) ∙ leads d o n refl
-domain-of ds es IntegerType leads = refl
-domain-of ds es BooleanType leads = refl
-domain-of ds es CharType leads = refl
-domain-of ds es NilType leads = refl
-domain-of ds es NoMembers leads = refl
-domain-of ds es (MembersType m) leads = refl
-domain-of ds es (TextType n) leads = refl
-domain-of ds es (EnumeratedType d ns) leads = refl
-domain-of ds es (SubrangeType d h low high) leads = refl
-domain-of ds es (ArrayType d p i element) leads = refl
-domain-of ds es (RecordType d p fs) leads = refl
-domain-of ds es (SetType d p m) leads = refl
+domain-of : (targets : Targets) (es : List Domain) (s : Shape) → ((d : Definition) (o : Owner) (n : List ℕ) → s ≡ PointerType d o n → domain_in es o n ≡ targets o n) → shape_of (components.domain_of es s) ≡ target_in targets s
+domain-of targets es (PointerType d o n) leads = with-shape es (domain_in es o n) ∙ leads d o n refl
+domain-of targets es IntegerType leads = refl
+domain-of targets es BooleanType leads = refl
+domain-of targets es CharType leads = refl
+domain-of targets es NilType leads = refl
+domain-of targets es NoMembers leads = refl
+domain-of targets es (MembersType m) leads = refl
+domain-of targets es (TextType n) leads = refl
+domain-of targets es (EnumeratedType d ns) leads = refl
+domain-of targets es (SubrangeType d h low high) leads = refl
+domain-of targets es (ArrayType d p i element) leads = refl
+domain-of targets es (RecordType d p fs) leads = refl
+domain-of targets es (SetType d p m) leads = refl
 
-pub target-judged : (ds : List Domain) (ty : Option Typed) → LeadsAsIn ds ty → shape_of (option_and_then (λ (x : Typed). components.domain_of x.domains x.shape) ty) ≡ target_of ds (shape_of ty)
-target-judged ds None leads = refl
-target-judged ds (Some t) leads = domain-of ds t.domains t.shape leads
+pub target-judged : (targets : Targets) (ty : Option Typed) → LeadsTo targets ty → shape_of (option_and_then (λ (x : Typed). components.domain_of x.domains x.shape) ty) ≡ target_of targets (shape_of ty)
+target-judged targets None leads = refl
+target-judged targets (Some t) leads = domain-of targets t.domains t.shape leads
 
-pub type-behind : (s t : Table) (o r : Option Operand) (ty : Option Typed) → s ≡ t → ShowsType s o ty → LeadsAsIn s.domains ty → AreFound s →
-    (AreFound t → option_map (shape_at t) r ≡ target_of t.domains (option_map (shape_at t) o)) → IfSome r (IsThere t) →
+pub type-behind : (targets : Targets) (s t : Table) (o r : Option Operand) (ty : Option Typed) → s ≡ t → ShowsType s o ty → LeadsTo targets ty → AreTold targets s →
+    ((told : Targets) → AreTold told t → option_map (shape_at t) r ≡ target_of told (option_map (shape_at t) o)) → IfSome r (IsThere t) →
     ShowsType s r (option_and_then (λ (x : Typed). components.domain_of x.domains x.shape) ty)
-type-behind s t o r ty e h leads found shape there =
+type-behind targets s t o r ty e h leads found shape there =
     let is = shape-in s t o ty e h in
-    let law = target-judged t.domains ty (subst (λ (x : Table). LeadsAsIn x.domains ty) e leads) in
-    let same = shape (subst AreFound e found) in
-    shown s t r _ e (same ∙ ap (target_of t.domains) is ∙ sym law) there
+    let law = target-judged targets ty leads in
+    let same = shape targets (subst (AreTold targets) e found) in
+    shown s t r _ e (same ∙ ap (target_of targets) is ∙ sym law) there
 
 pub entries-behind : (s t : Table) (o : Option Operand) (ty : Option Typed) (p : Bool) (base own with_own old all : List Entry) → s ≡ t → ShowsType s o ty → own ≡ base →
     with_own ≡ own ++ note_if p 15 (codes "not a pointer") → p ≡ is_no_pointer (option_map (shape_at t) o) → old ≡ [] → all ≡ old ++ at_kid 1 with_own →

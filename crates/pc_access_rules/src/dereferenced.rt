@@ -10,7 +10,7 @@ ghost use Rattle.pc_syntax.specs.declared.kind.Kind.TheVariants as kind;
 ghost use Rattle.pc_facts.specs.Known.{Known};
 ghost use Rattle.pc_facts.specs.Shows.{ShowsNode};
 ghost use Rattle.pc_access_rules.specs.Pointers as pointers;
-ghost use Rattle.pc_access_rules.specs.Pointers.{AreFound, LeadsAsIn};
+ghost use Rattle.pc_access_rules.specs.Pointers.{AreTold, LeadsTo, Targets};
 
 use crate::meanings::operand_of;
 use crate::tests::is_no_pointer;
@@ -21,7 +21,7 @@ use std::alloc::{AllocError, Global};
 
 /// What a pointer leads to: `pointer^`. Row 15. Only memory can fail. Work: the number of entries.
 pub fn dereference(alloc: Global, types: &Types, pointer: Facts) -> Result<Facts, AllocError>
-    ensures { IfOk result (λ f. (k : Known) (w : List ℕ) (a : Node) → k.table ≡ seen types.now → AreFound k.table → LeadsAsIn k.table.domains a.at.as_place.type → ShowsNode k pointer a.at → ShowsNode k f (with_kind kind.Deref w (dereference_rule a))) }
+    ensures { IfOk result (λ f. (k : Known) (targets : Targets) (w : List ℕ) (a : Node) → k.table ≡ seen types.now → AreTold targets k.table → LeadsTo targets a.at.as_place.type → ShowsNode k pointer a.at → ShowsNode k f (with_kind kind.Deref w (dereference_rule a))) }
 {
     let of = pointer.place_type();
     let hole = pointer.hole;
@@ -41,7 +41,7 @@ pub fn dereference(alloc: Global, types: &Types, pointer: Facts) -> Result<Facts
 
 /// The type that pointers of this type lead to, if that is known.
 fn target_of(types: &Types, of: Option<Operand>) -> Option<Operand>
-    ensures shape { AreFound (seen types.now) → option_map (shape_at (seen types.now)) result ≡ pointers.target_of (seen types.now).domains (option_map (shape_at (seen types.now)) of) }
+    ensures shape { (targets : Targets) → AreTold targets (seen types.now) → option_map (shape_at (seen types.now)) result ≡ pointers.target_of targets (option_map (shape_at (seen types.now)) of) }
     ensures there { IfSome result (IsThere (seen types.now)) }
 {
     match of {
@@ -52,7 +52,7 @@ fn target_of(types: &Types, of: Option<Operand>) -> Option<Operand>
 
 #[tactic(auto, using(crate::proofs::PointerSteps::targets))]
 fn target_in(types: &Types, pointer: Operand) -> Option<Operand>
-    ensures shape { AreFound (seen types.now) → option_map (shape_at (seen types.now)) result ≡ pointers.target_in (seen types.now).domains (shape_at (seen types.now) pointer) }
+    ensures shape { (targets : Targets) → AreTold targets (seen types.now) → option_map (shape_at (seen types.now)) result ≡ pointers.target_in targets (shape_at (seen types.now) pointer) }
     ensures there { IfSome result (IsThere (seen types.now)) }
 {
     match types.pointed(pointer) {

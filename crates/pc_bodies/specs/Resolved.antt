@@ -2,7 +2,6 @@
 use Rattle.std.specs.Prelude.{◌≡◌, ◌<◌, ℕ, Bool, false, List, Some, length, get_or, slice_get}
 use Rattle.std.specs.Option.{option_map_or}
 use Rattle.pc_syntax.specs.Plain.{Plain}
-use Rattle.pc_types.specs.Domains.{domain_in}
 use Rattle.pc_types.specs.Shapes.{Typed}
 use Rattle.pc_types.specs.Rows.{seen}
 use Rattle.pc_types.specs.Table.{nobody}
@@ -13,13 +12,13 @@ use Rattle.pc_names.specs.declared.id.NameId.{NameId}
 use Rattle.pc_rules.specs.Meanings.{Local, Outside, Meaning, Found, entry_of, field_or}
 use Rattle.pc_rules.specs.Attributes.{Node, nodes}
 use Rattle.pc_rules.specs.RequiredMeanings.{required_or_missing}
-use Rattle.pc_pointers.specs.Good.{IsGoodFound}
+use Rattle.pc_pointers.specs.Good.{Targets, IsGoodFound}
 use Rattle.pc_sightings.specs.Opened.{ShowsOpened}
 use Rattle.pc_sightings.specs.TouchedLog.{AreApart, stands_since}
 use Rattle.pc_environment.specs.Sight.{Sight}
 use Rattle.pc_environment.specs.RowLaws.{SeesFrom}
 use Rattle.pc_environment.specs.Decorating.{attributes_at, marks_of}
-use Rattle.pc_access_rules.specs.Pointers.{AreFound}
+use Rattle.pc_access_rules.specs.Pointers.{AreTold}
 use Rattle.pc_access_rules.specs.Selves.{ShowsSelf}
 use Rattle.pc_call_rules.specs.Parameters.{Logs}
 use Rattle.pc_growth.specs.Grows.{Begins}
@@ -42,7 +41,7 @@ abbrev pub ShowsDeclaration : Known → List Declared → ℕ → Meaning → Ty
 ShowsDeclaration k ds d m = (x : Declared) × (slice_get ds d ≡ Some x) × ((i : NameId) (n : List ℕ) → slice_get k.names i.0 ≡ Some n → ShowsMeaning k n (record x { name = i }) m)
 
 -- what a statement part is for the rules, given what numbers stand for and which records are opened: what names mean around the withs,
--- and the fields that these open; its block; that pointers lead to what the table of domains says; and which of the block's variables
+-- and the fields that these open; its block; that pointers lead to what some targets say, as the table of domains has it; and which of the block's variables
 -- the routines in it have touched, which are those in a log since a mark
 pub record Stands (b : Body) (k : Known) (opened : List Operand) (s : Sight) : Type 0 where
   pub outer : List ℕ → Found
@@ -55,8 +54,9 @@ pub record Stands (b : Body) (k : Known) (opened : List Operand) (s : Sight) : T
   pub own : ShowsSelf k b.own_function s.self
   pub distinct : AreDistinct b.names.now.texts
   pub apart : AreApart (seen b.types.now).owners
-  pub lead : AreFound (seen b.types.now)
-  pub good : (n : List ℕ) → IsGoodFound (domain_in (seen b.types.now).domains) (s.means n)
+  pub targets : Targets
+  pub told : AreTold targets (seen b.types.now)
+  pub good : (n : List ℕ) → IsGoodFound targets (s.means n)
   pub inside : (n : List ℕ) → s.touched n ≡ option_map_or (λ i. stands_since b.mark b.inside.now (b.owner.0, i)) (number_of b.names.now.texts n) false
 
 -- what was made of a node is what the rules find there, by this relation; the log of variables has grown by those that the node touches;

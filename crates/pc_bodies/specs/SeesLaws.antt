@@ -67,7 +67,8 @@ Stands-grows b a c os s g same h = record {
   own = ShowsSelf-grows a c b.own_function s.self g h.own;
   distinct = h.distinct;
   apart = h.apart;
-  lead = h.lead;
+  targets = h.targets;
+  told = h.told;
   good = h.good;
   inside = h.inside;
 }

@@ -1,7 +1,6 @@
 -- The tables, as the declarations of a block left them, stand for its statement part: lemmas.
 use Rattle.std.proofs.Common.{◌≡◌, ◌<◌, ℕ, false, List, [], length, get_or, refl, ap, sym, ◌∙◌, subst}
 use Rattle.std.specs.Option.{option_map_or}
-use Rattle.pc_types.specs.Domains.{domain_in}
 use Rattle.pc_types.specs.Rows.{seen}
 use Rattle.pc_types.specs.Table.{nobody}
 use Rattle.pc_types.specs.declared.operand.Operand.{Operand}
@@ -16,13 +15,12 @@ use Rattle.pc_rules.specs.Meanings.{Found, Local, find}
 use Rattle.pc_rules.specs.Outsides.{signature_named, outside_of}
 use Rattle.pc_rules.specs.RequiredMeanings.{required_or_missing}
 use Rattle.pc_rules.specs.Routines.{Routine, bare}
-use Rattle.pc_pointers.specs.Good.{IsGoodFound}
 use Rattle.pc_sightings.specs.Opened.{ShowsOpened}
 use Rattle.pc_sightings.specs.TouchedLog.{AreApart, stands_since}
 use Rattle.pc_facts.specs.Known.{Known}
 use Rattle.pc_facts.specs.declared.sighting.Declared.{Declared}
 use Rattle.pc_facts.specs.declared.sighting.Signature.{Signature}
-use Rattle.pc_access_rules.specs.Pointers.{AreFound}
+use Rattle.pc_access_rules.specs.Pointers.{AreTold}
 use Rattle.pc_access_rules.specs.Selves.{ShowsSelf}
 use Rattle.pc_places.specs.Places as places
 use Rattle.pc_places.specs.Places.{IsPlace, IsNamed}
@@ -64,7 +62,7 @@ known_of p = record { table = seen p.0; names = p.1.texts; texts = p.4; signatur
 
 -- the main law
 pub stands-for-body : BodyLaw
-stands-for-body t all r l b g has at owns named signs own apart lead good inside =
+stands-for-body targets t all r l b g has at owns named signs own apart told good inside =
     let old : Parts = (t.types, t.names, t.declarations.items, t.signatures.items, t.texts.items) in
     let new : Parts = (b.types.now, b.names.now, b.declarations.now, b.signatures.now, g.texts.items) in
     let same : old ≡ new = λ i. (sym has.types i, sym has.names i, sym has.declarations i, sym has.signatures i, sym has.texts i) in
@@ -81,7 +79,8 @@ stands-for-body t all r l b g has at owns named signs own apart lead good inside
       own = subst (λ (p : Parts). ShowsSelf (known_of p) b.own_function l.self) same own;
       distinct = subst (λ (p : Parts). AreDistinct p.1.texts) same at.distinct;
       apart = subst (λ (p : Parts). AreApart (known_of p).table.owners) same apart;
-      lead = subst (λ (p : Parts). AreFound (known_of p).table) same lead;
-      good = subst (λ (p : Parts). (n : List ℕ) → IsGoodFound (domain_in (known_of p).table.domains) (means n)) same good;
+      targets = targets;
+      told = subst (λ (p : Parts). AreTold targets (known_of p).table) same told;
+      good = good;
       inside = subst (λ (p : Parts). (n : List ℕ) → (outside_of all r).touched n ≡ option_map_or (λ i. stands_since b.mark b.inside.now (b.owner.0, i)) (number_of p.1.texts n) false) same inside;
     }

@@ -3,7 +3,6 @@ use Rattle.std.specs.Prelude.{◌≡◌, ℕ, Bool, true, false, List, []}
 use Rattle.std.specs.Option.{option_map_or}
 use Rattle.pc_syntax.specs.Plain.{Plain, forest_of}
 use Rattle.pc_syntax.specs.WellFormed.{IsProper}
-use Rattle.pc_types.specs.Domains.{domain_in}
 use Rattle.pc_types.specs.Shapes.{Owner}
 use Rattle.pc_names.specs.Chains.{chain_of}
 use Rattle.pc_names.specs.Numbers.{number_of}
@@ -14,10 +13,10 @@ use Rattle.pc_rules.specs.RoutineList.{routines_of}
 use Rattle.pc_rules.specs.Routines.{Routine, start_of}
 use Rattle.pc_environment.specs.Decorating.{place_after}
 use Rattle.pc_environment.specs.Sight.{sight_of}
-use Rattle.pc_pointers.specs.Good.{IsGoodFound}
+use Rattle.pc_pointers.specs.Good.{Targets, IsGoodFound}
 use Rattle.pc_needs.specs.Unaffected.{IsOneOf}
 use Rattle.pc_sightings.specs.TouchedLog.{AreApart, stands_since}
-use Rattle.pc_access_rules.specs.Pointers.{AreFound}
+use Rattle.pc_access_rules.specs.Pointers.{AreTold}
 use Rattle.pc_access_rules.specs.Selves.{ShowsSelf}
 use Rattle.pc_places.specs.Places as places
 use Rattle.pc_places.specs.Places.{IsPlace, IsNamed}
@@ -42,12 +41,12 @@ LogsInside t b touched = (n : List ℕ) → touched n ≡ option_map_or (λ i. s
 
 -- The tables stand for a statement part, if they stand for its place, complete declarations are found under their own names, those of
 -- routines in the block and those around have their parameters and results, the routines of the block are its own, owners have one
--- number each, pointers lead to what the table of domains says, and the log says what the routines in the block touch.
+-- number each, pointers lead to what some targets say, as the table of domains has it, and the log says what the routines in the block touch.
 abbrev pub BodyLaw : Type 0
-BodyLaw = (t : Tables) (all : List Routine) (r : Routine) (l : Local) (b : Body) (g : Going) → HasTables t b g → IsPlace t b.block.0 b.owner.0 (outside_of all r) l →
+BodyLaw = (targets : Targets) (t : Tables) (all : List Routine) (r : Routine) (l : Local) (b : Body) (g : Going) → HasTables t b g → IsPlace t b.block.0 b.owner.0 (outside_of all r) l →
     OwnsRoutines r.owner l.known → IsNamed t.names t.declarations.items → IsSigned t.names (places.known t) t.declarations.items (signature_named all) (chain_of t.names.chains b.block.0) →
-    ShowsSelf (places.known t) b.own_function l.self → AreApart (places.known t).table.owners → AreFound (places.known t).table →
-    ((n : List ℕ) → IsGoodFound (domain_in (places.known t).table.domains) (find (outside_of all r) l n)) → LogsInside t b (outside_of all r).touched →
+    ShowsSelf (places.known t) b.own_function l.self → AreApart (places.known t).table.owners → AreTold targets (places.known t).table →
+    ((n : List ℕ) → IsGoodFound targets (find (outside_of all r) l n)) → LogsInside t b (outside_of all r).touched →
     Stands b (known b g) g.opened.items (sight_of (outside_of all r) l)
 
 -- a place of this block, at which the complete routines are the block's own

@@ -8,7 +8,6 @@ use Rattle.pc_syntax.specs.Plain.{Nil, Cons, Plain}
 use Rattle.pc_syntax.specs.WellFormed.{IsProper}
 use Rattle.pc_syntax.specs.declared.kind.Kind.{Kind}
 use Rattle.pc_syntax.specs.declared.kind.Kind.TheVariants as kind
-use Rattle.pc_types.specs.Domains.{domain_in}
 use Rattle.pc_types.specs.Rows.{seen as tables}
 use Rattle.pc_types.specs.Shapes.{Typed}
 use Rattle.pc_types.specs.declared.operand.Operand.{Operand}
@@ -66,19 +65,18 @@ at-good : (out : Outside) (l : Local) (t : Plain) (targets : Targets) → GoodPl
 unfolding decorate
 at-good out l t targets place body = (good-marks out l targets (Cons t.kind t.word t.notes t.kids Nil) place body).0
 
--- what is found at a node of a statement part leads to what the table of domains says
-pub good-at : (b : Body) (k : Known) (os : List Operand) (out : Outside) (l : Local) (s : Sight) (t : Plain) → IsProper t → is_body t.kind ≡ true → SeesFrom out l s → Stands b k os s →
-    IsGoodAt (domain_in (tables b.types.now).domains) (attributes_at out l t)
+-- what is found at a node of a statement part leads to what the targets say
+pub good-at : (b : Body) (k : Known) (os : List Operand) (out : Outside) (l : Local) (s : Sight) (t : Plain) → IsProper t → is_body t.kind ≡ true → SeesFrom out l s → (stands : Stands b k os s) →
+    IsGoodAt stands.targets (attributes_at out l t)
 good-at b k os out l s t proper body sees stands =
-    at-good out l t (domain_in (tables b.types.now).domains)
-    (λ n. subst (λ (f : Found). IsGoodFound (domain_in (tables b.types.now).domains) f) (sym (ap (λ (x : Sight). x.means n) sees.sight)) (stands.good n)) (whole-body t proper body)
+    at-good out l t stands.targets (λ n. subst (IsGoodFound stands.targets) (sym (ap (λ (x : Sight). x.means n) sees.sight)) (stands.good n)) (whole-body t proper body)
 
 -- ---- the stack
 
 -- with the record of one more access open
 pub stands-opened : (b : Body) (k : Known) (os : List Operand) (s : Sight) (o : Option Operand) (ty : Option Typed) → ShowsType (tables b.types.now) o ty →
-    AllOpenedGood (domain_in (tables b.types.now).domains) (opened_by ty) → Stands b k os s → Stands b k (os ++ pushed o) (opened_sight (opened_by ty) s)
-stands-opened b k os s o ty shows good h = record {
+    (stands : Stands b k os s) → AllOpenedGood stands.targets (opened_by ty) → Stands b k (os ++ pushed o) (opened_sight (opened_by ty) s)
+stands-opened b k os s o ty shows h good = record {
   outer = h.outer;
   fields = opened_by ty ++ h.fields;
   along = h.along;
@@ -90,7 +88,8 @@ stands-opened b k os s o ty shows good h = record {
   own = h.own;
   distinct = h.distinct;
   apart = h.apart;
-  lead = h.lead;
-  good = λ n. field-leads (domain_in (tables b.types.now).domains) (opened_by ty) n (s.means n) good (h.good n);
+  targets = h.targets;
+  told = h.told;
+  good = λ n. field-leads h.targets (opened_by ty) n (s.means n) good (h.good n);
   inside = h.inside;
 }

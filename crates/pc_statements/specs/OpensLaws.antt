@@ -4,7 +4,6 @@ use Rattle.std.proofs.Common.{refl, ap, sym, ◌∙◌, subst, append-nil}
 use Rattle.pc_syntax.specs.Classes.{is_access}
 use Rattle.pc_syntax.specs.Plain.{Plain}
 use Rattle.pc_syntax.specs.WellFormed.{IsProper}
-use Rattle.pc_types.specs.Domains.{domain_in}
 use Rattle.pc_types.specs.Rows.{seen as tables}
 use Rattle.pc_types.specs.Shapes.{Typed}
 use Rattle.pc_types.specs.declared.operand.Operand.{Operand}
@@ -67,14 +66,13 @@ opens-more b g0 g1 g2 g3 ts t o1 o2 f bodies proper body access row one add open
       let shown : ShowsNode (known b g2) f n.at = subst (ShowsNode (known b g2) f) same (one.shows out (closed_place l2) s2 there before.stands) in
       let logs : Logs (known b g2) g1.touched.items g2.touched.items n.at.touches =
       subst (λ (a : Attributes). Logs (known b g2) g1.touched.items g2.touched.items a.touches) same (one.touched out (closed_place l2) s2 there before.stands) in
-      let good : IsGoodAt (domain_in (tables b.types.now).domains) n.at =
-      subst (IsGoodAt (domain_in (tables b.types.now).domains)) same (good-at b (known b g1) g1.opened.items out (closed_place l2) s2 t proper body there before.stands) in
+      let kept : Stands b (known b g2) g2.opened.items s2 = stands-kept b g1 g2 s2 one.opened one.texts before.stands in
+      let good : IsGoodAt kept.targets n.at = subst (IsGoodAt kept.targets) same (good-at b (known b g2) g2.opened.items out (closed_place l2) s2 t proper body there kept) in
       let opens = opens-at out l2 t access in
       let all : all_opens (nodes (marks_of out l (ts ++ t ∷ []))) ≡ opened_by n.at.as_place.type ++ all_opens ns =
       ap all_opens (nodes-more out l ts t) ∙ all_opens-more ns n ∙ ap (λ (fs : List (List ℕ × (Typed × Bool))). fs ++ all_opens ns) opens in
       let longer : Stands b (known b g2) (g2.opened.items ++ pushed (place_of f.judgement).of) (opened_sight (opened_by n.at.as_place.type) s2) =
-      stands-opened b (known b g2) g2.opened.items s2 (place_of f.judgement).of n.at.as_place.type shown.place.type
-      (subst (AllOpenedGood (domain_in (tables b.types.now).domains)) opens good.opened) (stands-kept b g1 g2 s2 one.opened one.texts before.stands) in
+      stands-opened b (known b g2) g2.opened.items s2 (place_of f.judgement).of n.at.as_place.type shown.place.type kept (subst (AllOpenedGood kept.targets) opens good.opened) in
       let k : known b g2 ≡ known b g3 = ap (λ (ts : List (List ℕ)). record (known b g2) { texts = ts }) (sym texts) in
       record {
         shows = subst (handed.ShowsOpened (known b g3) o2) (sym (nodes-more out l ts t)) (add (known b g2) ns n refl before.shows shown);

@@ -262,7 +262,7 @@ expression-returns-in_ok-found-in-Deref t c =
     (λ out l s sees stands.
     let l1 = first_place l kind.Deref (pointer ∷ []) in
     let first = sees-first out l s kind.Deref (pointer ∷ []) refl refl sees in
-    c.in_ok-found-in-Deref.ensures (known b g1) node.word (node_at out l1 pointer) refl stands.lead
+    c.in_ok-found-in-Deref.ensures (known b g1) stands.targets node.word (node_at out l1 pointer) refl stands.told
     (leads-at b (known b g0) g0.opened.items out l1 s pointer (proper-kid node f proper c.in-Deref.ensures.value).0 body first stands)
     (r1.shows out l1 s first stands))
     (logs-kid b g0 g1 pointer kind.Deref refl refl r1.touched)
