@@ -9,6 +9,7 @@ use Rattle.pc_names.specs.Table.{Table, slot_named}
 use Rattle.pc_names.specs.Standing.{IsKnown, StandsFor}
 use Rattle.pc_names.specs.StandingLaws.{is_among-end, entry_of-end, first_of, passing, knowing}
 use Rattle.pc_names.specs.StandingChanges.{StandsFor-retold}
+use Rattle.pc_places.specs.TellingLaws.{telling}
 
 -- two places say the same of each name
 pub record SaysAlike (a b : Local) : Type 0 where
@@ -97,11 +98,7 @@ declared-second l n m ds second =
 
 -- ---- names that are told again
 
--- a name is told again: what counts is what is said last of it
-abbrev pub telling : Local → List ℕ → Meaning → Local
-telling l n m = record l { known = (n, m) ∷ l.known }
-
--- the same of some names with one meaning
+-- some names are told again, with one meaning: what counts is what is said last of each
 abbrev pub telling_all : Local → List (List ℕ) → Meaning → Local
 telling_all l [] m = l
 telling_all l (n ∷ ns) m = telling_all (telling l n m) ns m

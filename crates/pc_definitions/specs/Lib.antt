@@ -13,6 +13,5 @@ pub mod TypeMakes
 pub mod ToldLaws
 pub mod Variables
 pub mod VariableMakes
-pub mod TellingLaws
 pub mod VariableNames
 pub mod VariableNamesLaws

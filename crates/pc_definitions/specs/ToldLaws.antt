@@ -6,7 +6,8 @@ use Rattle.pc_syntax.specs.Words.{is_among}
 use Rattle.pc_rules.specs.DeclaringNames.{all_as}
 use Rattle.pc_rules.specs.Meanings.{Meaning, Local, entry_of, define, define_all}
 use Rattle.pc_names.specs.StandingLaws.{is_among-end, entry_of-end, first_of}
-use Rattle.pc_definitions.specs.DefineLaws.{SaysAlike, is_there, is_new, new_names, telling, telling_all}
+use Rattle.pc_places.specs.TellingLaws.{telling}
+use Rattle.pc_definitions.specs.DefineLaws.{SaysAlike, is_there, is_new, new_names, telling_all}
 
 -- the second place says what the first one does, but for some names of which it says this
 pub record TellsApart (S : List ℕ → Bool) (m : Meaning) (a b : Local) : Type 0 where

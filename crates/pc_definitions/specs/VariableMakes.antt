@@ -29,6 +29,7 @@ use Rattle.pc_places.specs.MovesLaws.{Moves-then}
 use Rattle.pc_places.specs.NumberingLaws.{number_of-begins}
 use Rattle.pc_places.specs.PlacesLaws.{IsPlace-alike}
 use Rattle.pc_places.specs.Places.{known, IsPlace, Makes}
+use Rattle.pc_places.specs.TellingLaws.{telling}
 use Rattle.pc_places.specs.declared.tables.Tables.{Tables}
 use Rattle.pc_denoters.specs.Cores.{core, IsPlace-core, core-defined, fields-defined}
 use Rattle.pc_denoters.specs.FormsAt.{first_place, found_at, at-form, kind-form}
@@ -36,7 +37,7 @@ use Rattle.pc_denoters.specs.Goings.{ShowsFacts, MakesForm}
 use Rattle.pc_denoters.specs.Kinds as denoting
 use Rattle.pc_denoters.specs.Kinds.{class-denoting}
 use Rattle.pc_denoters.specs.Quiet.{class-quiet, quiet-behind}
-use Rattle.pc_definitions.specs.DefineLaws.{new_names, telling, telling_all}
+use Rattle.pc_definitions.specs.DefineLaws.{new_names, telling_all}
 use Rattle.pc_definitions.specs.DefiningKinds.{is_defining, core-behind}
 use Rattle.pc_definitions.specs.DefinitionMakes.{quiet-core}
 use Rattle.pc_definitions.specs.NamingLaws.{owner-defined}

@@ -1,6 +1,7 @@
 -- How the tables change as types, texts and a name in small letters are put into them: all else is kept.
 use Rattle.std.specs.Prelude.{ℕ}
-use Rattle.std.proofs.Common.{refl}
+use Rattle.std.proofs.Common.{[], refl, sym, ◌∙◌}
+use Rattle.std.proofs.lemmas.List.{append-nil}
 use Rattle.pc_types.specs.Rows.{Kept, seen}
 use Rattle.pc_growth.specs.GrowsLaws.{Begins-same}
 use Rattle.pc_places.specs.MovesLaws.{Moves-kept, Moves-then}
@@ -13,7 +14,7 @@ pub keeps-types : (t : Tables) (s : Kept) → Extends (seen t.types) (seen s) �
 keeps-types t s e = record {
   grows = record {
     shapes = record { more = e.more_shapes; is = e.shapes };
-    owners = record { more = e.more_owners; is = e.owners };
+    owners = record { more = []; is = e.owners ∙ sym (append-nil (seen t.types).owners) };
     names = Begins-same t.names.texts;
     texts = Begins-same t.texts.items;
     signatures = Begins-same t.signatures.items;
@@ -22,6 +23,8 @@ keeps-types t s e = record {
   chains = Begins-same t.names.chains;
   distinct = λ d. d;
   slots = λ b n. refl;
+  domains = record { more = e.more_domains; is = e.domains };
+  owners = e.owners;
 }
 
 -- more types behind other changes

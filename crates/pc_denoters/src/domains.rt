@@ -5,7 +5,7 @@ ghost use Rattle.std.specs.Option.{ForSome};
 ghost use Rattle.pc_syntax.specs.Classes.{has};
 ghost use Rattle.pc_syntax.specs.Words.{lowered};
 ghost use Rattle.pc_syntax.specs.declared.class.Class.TheVariants as class;
-ghost use Rattle.pc_types.specs.Rows.{seen, seen_owner};
+ghost use Rattle.pc_types.specs.Rows.{seen};
 ghost use Rattle.pc_types.specs.Shapes.{Owner as Defining};
 ghost use Rattle.pc_types.specs.Table.{Place, nobody, place_at};
 ghost use Rattle.pc_forms.specs.declared.form.Form.TheVariants as form;
@@ -22,9 +22,9 @@ use pc_facts::{Facts, Sighting};
 use pc_name_rules::{Allowed, add_name_entries};
 use pc_names::BlockId;
 use pc_places::{Tables, name_at_place};
-use pc_syntax::{Key, Tree, Word};
+use pc_syntax::{Tree, Word};
 use pc_type_rules::pointer;
-use pc_types::{Definition, DomainId, Owner, OwnerId, Types};
+use pc_types::{Definition, DomainId, OwnerId, Types};
 use std::alloc::{AllocError, Global};
 
 /// What is found at a pointer type that is defined here: its domain gets a number of its own. Only memory and numbers can fail.
@@ -72,7 +72,7 @@ fn domain_of(
             Ok(domain)
         }
         Sighting::Required(_) => {
-            let program = program(alloc, types)?;
+            let program = types.program();
             let domain = domain_by(alloc, types, program, word)?;
             Ok(domain)
         }
@@ -112,44 +112,5 @@ fn add_domain(types: &mut Types, owner: OwnerId, name: Word) -> Result<DomainId,
         return Err(AllocError);
     }
     let id = types.add_domain(owner, name)?;
-    Ok(id)
-}
-
-/// The number of the program as an owner: the first, unless that is another.
-#[tactic(auto, using(crate::specs::DomainLaws::unchanged))]
-fn program(alloc: Global, types: &mut Types) -> Result<OwnerId, AllocError>
-    ensures is { IfOk result (λ o. get_or (seen types.new).owners o.0 nobody ≡ nobody) }
-    ensures there { IfOk result (λ o. o.0 < length (seen types.new).owners) }
-    ensures extended { OnOk result (Extends (seen types.old) (seen types.new)) }
-{
-    if begins_with_program(types) {
-        Ok(OwnerId::PROGRAM)
-    } else {
-        let id = add_owner(types, Owner::Keyed(Key::root(alloc)))?;
-        Ok(id)
-    }
-}
-
-/// Whether the first owner is the program, which any number that is not there stands for too.
-fn begins_with_program(types: &Types) -> bool
-    ensures is { result ≡ true → get_or (seen types.now).owners 0 nobody ≡ nobody }
-    ensures there { result ≡ true → 0 < length (seen types.now).owners }
-{
-    match u32::try_from(types.count_owners()) {
-        Ok(beyond) => beyond > 0 && types.same_owners(OwnerId::PROGRAM, OwnerId(beyond)),
-        Err(_) => false,
-    }
-}
-
-/// A new owner: its number. Fails for want of memory, and where there are as many owners as numbers.
-fn add_owner(types: &mut Types, owner: Owner) -> Result<OwnerId, AllocError>
-    ensures is { IfOk result (λ o. get_or (seen types.new).owners o.0 nobody ≡ seen_owner owner) }
-    ensures there { IfOk result (λ o. o.0 < length (seen types.new).owners) }
-    ensures extended { OnOk result (Extends (seen types.old) (seen types.new)) }
-{
-    if types.count_owners() > u32::MAX as usize {
-        return Err(AllocError);
-    }
-    let id = types.add_owner(owner)?;
     Ok(id)
 }

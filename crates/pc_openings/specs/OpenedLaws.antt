@@ -116,6 +116,8 @@ module _ (around : Option ℕ) (ps : List Parameter) (node : Option Plain) (bloc
       distinct = distinct-c;
       others = λ o n there apart. others-c o n apart;
       named = named-c have;
+      domains = Begins-same (known old).table.domains;
+      owners = refl;
     };
     place = λ owner o self out es owner_is there distinct finds shows first.
         let D = ShowsUnsigned (known old) old.declarations.items in

@@ -11,3 +11,5 @@ pub mod NumberingLaws
 pub mod ReboundLaws
 pub mod ParametersLaws
 pub mod ConstantLaws
+pub mod TellingLaws
+pub mod ChangesLaws

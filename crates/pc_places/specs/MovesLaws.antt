@@ -27,6 +27,8 @@ Keeps-same t = record {
   chains = Begins-same t.names.chains;
   distinct = λ d. d;
   slots = λ b n. refl;
+  domains = Begins-same (known t).table.domains;
+  owners = refl;
 }
 
 pub Keeps-then : (a b c : Tables) → Keeps a b → Keeps b c → Keeps a c
@@ -36,6 +38,8 @@ Keeps-then a b c h g = record {
   chains = Begins-then a.names.chains b.names.chains c.names.chains h.chains g.chains;
   distinct = λ d. g.distinct (h.distinct d);
   slots = λ k n. g.slots k n ∙ h.slots k n;
+  domains = Begins-then (known a).table.domains (known b).table.domains (known c).table.domains h.domains g.domains;
+  owners = g.owners ∙ h.owners;
 }
 
 pub Moves-kept : (block : ℕ) (old new : Tables) → Keeps old new → Moves block old new
@@ -46,6 +50,8 @@ Moves-kept block old new h = record {
   distinct = h.distinct;
   others = λ b n there apart. h.slots b n;
   named = Keeps-named old new h;
+  domains = h.domains;
+  owners = h.owners;
 }
 
 pub Moves-same : (block : ℕ) (t : Tables) → Moves block t t
@@ -60,6 +66,8 @@ Moves-within block inner a b c where_is h g = record {
   distinct = λ d. g.distinct (h.distinct d);
   others = λ k n there apart. g.others k n (less-begins a.names.chains b.names.chains k h.chains there) (differs where_is k there apart) ∙ h.others k n there apart;
   named = λ is. g.named (h.named is);
+  domains = Begins-then (known a).table.domains (known b).table.domains (known c).table.domains h.domains g.domains;
+  owners = g.owners ∙ h.owners;
 }
   where
     differs : (inner ≡ block ⊎ length a.names.chains ≤ inner) → (k : ℕ) → k < length a.names.chains → (k ≡ block → ⊥) → (k ≡ inner → ⊥)
@@ -110,7 +118,7 @@ IsPlace-changed old new block owner out l m grows declarations chains distinct l
       there = less-begins (known old).table.owners (known new).table.owners owner grows.owners h.there;
     }
 
-own-kept : (old new : Tables) (block : ℕ) (l : Local) → Grows (known old) (known new) → Begins old.declarations.items new.declarations.items →
+pub own-kept : (old new : Tables) (block : ℕ) (l : Local) → Grows (known old) (known new) → Begins old.declarations.items new.declarations.items →
     ((n : List ℕ) → slot_named new.names block n ≡ slot_named old.names block n) → StandsFor (ShowsUnsigned (known old) old.declarations.items) old.names block l →
     StandsFor (ShowsUnsigned (known new) new.declarations.items) new.names block l
 own-kept old new block l grows declarations kept own =

@@ -46,16 +46,21 @@ Keeps-number old new w types texts signatures declarations names distinct slots 
   chains = record { more = []; is = ap (λ (t : Table). t.chains) names ∙ sym (append-nil old.names.chains) };
   distinct = λ d. distinct;
   slots = slots;
+  domains = record { more = []; is = ap (λ t. (seen t).domains) types ∙ sym (append-nil (known old).table.domains) };
+  owners = ap (λ t. (seen t).owners) types;
 }
 
 -- the tables after more was numbered than names
-pub Keeps-grown : (old new : Tables) → Grows (known old) (known new) → Begins old.declarations.items new.declarations.items → new.names ≡ old.names → Keeps old new
-Keeps-grown old new grows declarations names = record {
+pub Keeps-grown : (old new : Tables) → Grows (known old) (known new) → Begins old.declarations.items new.declarations.items → new.names ≡ old.names →
+    Begins (known old).table.domains (known new).table.domains → (known new).table.owners ≡ (known old).table.owners → Keeps old new
+Keeps-grown old new grows declarations names domains owners = record {
   grows = grows;
   declarations = declarations;
   chains = record { more = []; is = ap (λ (t : Table). t.chains) names ∙ sym (append-nil old.names.chains) };
   distinct = λ d. subst (λ (t : Table). AreDistinct t.texts) (sym names) d;
   slots = λ b n. ap (λ (t : Table). slot_named t b n) names;
+  domains = domains;
+  owners = owners;
 }
 
 -- the characters of strings
@@ -70,19 +75,21 @@ Keeps-texts old new types texts signatures declarations names = Keeps-grown old 
       signatures = record { more = []; is = signatures ∙ sym (append-nil old.signatures.items) };
     })
     (record { more = []; is = declarations ∙ sym (append-nil old.declarations.items) }) names
+    (record { more = []; is = ap (λ t. (seen t).domains) types ∙ sym (append-nil (known old).table.domains) }) (ap (λ t. (seen t).owners) types)
 
 -- types
-pub Keeps-types : (old new : Tables) → Begins (known old).table.shapes (known new).table.shapes → Begins (known old).table.owners (known new).table.owners →
+pub Keeps-types : (old new : Tables) → Begins (known old).table.shapes (known new).table.shapes → (known new).table.owners ≡ (known old).table.owners →
+    Begins (known old).table.domains (known new).table.domains →
     new.texts.items ≡ old.texts.items → new.signatures.items ≡ old.signatures.items → new.declarations.items ≡ old.declarations.items → new.names ≡ old.names → Keeps old new
-Keeps-types old new shapes owners texts signatures declarations names = Keeps-grown old new
+Keeps-types old new shapes owners domains texts signatures declarations names = Keeps-grown old new
     (record {
       shapes = shapes;
-      owners = owners;
+      owners = record { more = []; is = owners ∙ sym (append-nil (known old).table.owners) };
       names = record { more = []; is = ap (λ (t : Table). t.texts) names ∙ sym (append-nil old.names.texts) };
       texts = record { more = []; is = texts ∙ sym (append-nil old.texts.items) };
       signatures = record { more = []; is = signatures ∙ sym (append-nil old.signatures.items) };
     })
-    (record { more = []; is = declarations ∙ sym (append-nil old.declarations.items) }) names
+    (record { more = []; is = declarations ∙ sym (append-nil old.declarations.items) }) names domains owners
 
 there-by : (b : Bool) (o : Option ℕ) → (if b then Some 0 else option_map suc o) ≡ None → (b ≡ false) × (o ≡ None)
 there-by true o e = cc

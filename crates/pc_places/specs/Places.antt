@@ -4,7 +4,7 @@ use Rattle.pc_syntax.specs.Plain.{Plain}
 use Rattle.pc_types.specs.Rows.{seen}
 use Rattle.pc_types.specs.Table.{definition_in, nobody}
 use Rattle.pc_types.specs.declared.form.Definition.{Definition}
-use Rattle.pc_names.specs.Bindings.{slot_in, declared}
+use Rattle.pc_names.specs.Bindings.{slot_in, declared, retold}
 use Rattle.pc_names.specs.Chains.{AreBelow, chain_of}
 use Rattle.pc_names.specs.Finding.{FindsAlong}
 use Rattle.pc_names.specs.Numbers.{AreDistinct}
@@ -51,7 +51,17 @@ IsUnder names ds n d = (x : Declared) × (slice_get ds d ≡ Some x) × (slice_g
 abbrev pub IsNamed : Table → List Declared → Type 0
 IsNamed t ds = (b : ℕ) (n : List ℕ) (d : DeclarationId) → (slot_named t b n).known ≡ Some d → IsUnder t.texts ds n d.0
 
--- more is numbered and declared, and only this block of those that were begun may have got other names
+-- more is numbered and declared, and only this block of those that were begun may have got other names; owners stay, and domains may have got other types
+pub record Changes (block : ℕ) (old new : Tables) : Type 0 where
+  pub grows : Grows (known old) (known new)
+  pub declarations : Begins old.declarations.items new.declarations.items
+  pub chains : Begins old.names.chains new.names.chains
+  pub distinct : AreDistinct old.names.texts → AreDistinct new.names.texts
+  pub others : (b : ℕ) (n : List ℕ) → b < length old.names.chains → (b ≡ block → ⊥) → slot_named new.names b n ≡ slot_named old.names b n
+  pub named : IsNamed old.names old.declarations.items → IsNamed new.names new.declarations.items
+  pub owners : (known new).table.owners ≡ (known old).table.owners
+
+-- the same where domains stay as they are
 pub record Moves (block : ℕ) (old new : Tables) : Type 0 where
   pub grows : Grows (known old) (known new)
   pub declarations : Begins old.declarations.items new.declarations.items
@@ -59,6 +69,8 @@ pub record Moves (block : ℕ) (old new : Tables) : Type 0 where
   pub distinct : AreDistinct old.names.texts → AreDistinct new.names.texts
   pub others : (b : ℕ) (n : List ℕ) → b < length old.names.chains → (b ≡ block → ⊥) → slot_named new.names b n ≡ slot_named old.names b n
   pub named : IsNamed old.names old.declarations.items → IsNamed new.names new.declarations.items
+  pub domains : Begins (known old).table.domains (known new).table.domains
+  pub owners : (known new).table.owners ≡ (known old).table.owners
 
 -- more is numbered and declared, and each block has of each name what it had
 pub record Keeps (old new : Tables) : Type 0 where
@@ -67,6 +79,8 @@ pub record Keeps (old new : Tables) : Type 0 where
   pub chains : Begins old.names.chains new.names.chains
   pub distinct : AreDistinct old.names.texts → AreDistinct new.names.texts
   pub slots : (b : ℕ) (n : List ℕ) → slot_named new.names b n ≡ slot_named old.names b n
+  pub domains : Begins (known old).table.domains (known new).table.domains
+  pub owners : (known new).table.owners ≡ (known old).table.owners
 
 -- the block has this of the name from now on, there are these declarations more, and all else stays
 pub record Rebound (block name : ℕ) (slot : Slot) (more : List Declared) (old new : Tables) : Type 0 where
@@ -80,6 +94,11 @@ pub record Rebound (block name : ℕ) (slot : Slot) (more : List Declared) (old 
 abbrev pub AddsDeclaration : ℕ → ℕ → Declared → Tables → Tables → Type 0
 AddsDeclaration block name x old new =
     (d : DeclarationId) × (d.0 ≡ length old.declarations.items) × Rebound block name (declared (slot_in old.names.slots block name) d) (x ∷ []) old new
+
+-- the last declaration is this one, under this name of the block, whichever was complete there before
+abbrev pub RetellsDeclaration : ℕ → ℕ → Declared → Tables → Tables → Type 0
+RetellsDeclaration block name x old new =
+    (d : DeclarationId) × (d.0 ≡ length old.declarations.items) × Rebound block name (retold (slot_in old.names.slots block name) d) (x ∷ []) old new
 
 -- the definition that is made here, and whether the type is packed, are those that the place says
 pub record IsHere (t : Tables) (here : Definition) (packed : Bool) (l : Local) : Type 0 where

@@ -47,6 +47,8 @@ Moves-rebound block name slot more old new h named = record {
   distinct = λ d. subst AreDistinct (sym h.names.texts) d;
   others = λ b n there apart. slot_named-other old.names new.names block name slot h.names b (λ e. apart (sym e)) n;
   named = named;
+  domains = record { more = []; is = ap (λ t. (seen t).domains) h.types ∙ sym (append-nil (known old).table.domains) };
+  owners = ap (λ t. (seen t).owners) h.types;
 }
 
 -- another place of the block

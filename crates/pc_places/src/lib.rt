@@ -15,5 +15,5 @@ pub use at_place::{constant_at_place, name_at_place};
 pub use constants::constant;
 pub use names::used_name;
 pub use parameter::Parameter;
-pub use steps::{announce, complete, declare, is_passed, number, pass};
+pub use steps::{announce, complete, declare, is_passed, number, pass, retell};
 pub use tables::Tables;

@@ -6,7 +6,8 @@ ghost use Rattle.pc_names.specs.Numbers as numbers;
 ghost use Rattle.pc_names.specs.Standing.{meant};
 ghost use Rattle.pc_names.specs.StandingLaws as standing;
 ghost use Rattle.pc_rules.specs.Meanings.{Local, Meaning, Outside, define};
-ghost use Rattle.pc_places.specs.Places.{known, IsPlace, AddsDeclaration, Keeps, Moves};
+ghost use Rattle.pc_places.specs.Places.{known, IsPlace, AddsDeclaration, RetellsDeclaration, Keeps, Moves};
+ghost use Rattle.pc_places.specs.TellingLaws.{telling};
 ghost use Rattle.pc_places.specs.Scenes.{Declares};
 
 use crate::tables::Tables;
@@ -74,6 +75,25 @@ pub fn complete(
 {
     let id = add_declaration(&mut tables.declarations, declared)?;
     tables.names.complete(block, name, id)?;
+    Ok(())
+}
+
+/// The declaration of the name of the block is this one from now on, which is one under this name, whichever it was. Fails likewise.
+pub fn retell(
+    tables: &mut Tables,
+    block: BlockId,
+    name: NameId,
+    declared: Declared,
+) -> Result<(), AllocError>
+    requires block { block.0 < length tables.old.names.chains }
+    requires name { name.0 < length tables.old.names.texts }
+    requires named { declared.name ≡ name }
+    ensures place { OnOk result ((owner : ℕ) (out : Outside) (l : Local) (n : List ℕ) (m : Meaning) → numbers.number_of tables.old.names.texts n ≡ Some name.0 → Declares (known tables.old) n declared m → IsPlace tables.old block.0 owner out l → IsPlace tables.new block.0 owner out (telling l n m)) }
+    ensures retold { OnOk result (RetellsDeclaration block.0 name.0 declared tables.old tables.new) }
+    ensures moves { OnOk result (Moves block.0 tables.old tables.new) }
+{
+    let id = add_declaration(&mut tables.declarations, declared)?;
+    tables.names.retell(block, name, id)?;
     Ok(())
 }
 

@@ -2,14 +2,13 @@
 use Rattle.std.proofs.Common.{◌≡◌, ℕ, Bool, false, List, [], ◌∷◌, ◌++◌, length, slice_get, Option, Some, refl, ap, sym, ◌∙◌, subst, if◌then◌else◌}
 use Rattle.std.proofs.lemmas.Slice.Eq.{bytes_eq-Decides}
 use Rattle.std.specs.Str.{bytes_eq}
-use Rattle.pc_names.specs.Bindings.{slot_in}
+use Rattle.pc_names.specs.Bindings.{slot_in, retold}
 use Rattle.pc_names.specs.Numbers.{number_of}
 use Rattle.pc_names.specs.Standing.{IsKnown, Has, StandsFor}
 use Rattle.pc_names.specs.StandingChanges.{StandsFor-more}
 use Rattle.pc_names.specs.StandingLaws.{StandsFor-Rebinds}
 use Rattle.pc_names.specs.Table.{Table, Rebinds, slot_at}
 use Rattle.pc_names.specs.declared.id.DeclarationId.{DeclarationId}
-use Rattle.pc_names.specs.declared.slot.Slot.{Slot}
 use Rattle.pc_rules.specs.Meanings.{Meaning, Local, Outside, entry_of}
 use Rattle.pc_facts.specs.declared.sighting.Declared.{Declared}
 use Rattle.pc_places.specs.MovesLaws.{IsPlace-own}
@@ -18,11 +17,10 @@ use Rattle.pc_places.specs.ReboundLaws.{Moves-rebound}
 use Rattle.pc_places.specs.SceneLaws.{Declares-grows, ShowsUnsigned-grows}
 use Rattle.pc_places.specs.Scenes.{Declares, ShowsUnsigned}
 use Rattle.pc_places.specs.declared.tables.Tables.{Tables}
-use Rattle.pc_definitions.specs.DefineLaws.{telling}
 
 -- the declaration of the name is this one from now on
-abbrev pub retold : Slot → DeclarationId → Slot
-retold s d = record s { known = Some d }
+abbrev pub telling : Local → List ℕ → Meaning → Local
+telling l n m = record l { known = (n, m) ∷ l.known }
 
 told-here : (n : List ℕ) (m : Meaning) (ms : List (List ℕ × Meaning)) → entry_of ((n, m) ∷ ms) n ≡ Some m
 told-here n m ms = ap (λ (b : Bool). if b then Some m else entry_of ms n) ((bytes_eq-Decides n n).1 refl)
