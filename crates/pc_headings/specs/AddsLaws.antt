@@ -23,6 +23,7 @@ use Rattle.pc_headings.specs.declared.listed.Listed.{Listed}
 use Rattle.pc_headings.specs.declared.listed.Part.{Part}
 use Rattle.pc_headings.specs.AroundLaws.{IsAround-keeps}
 use Rattle.pc_headings.specs.AtLaws.{first_place, kids-at, list-kids}
+use Rattle.pc_headings.specs.DeclaredLaws.{declared-none}
 use Rattle.pc_headings.specs.Groups.{AddsNode, AddsRow, AddsParameters, ShowsRow, IsParameter}
 use Rattle.pc_headings.specs.Headed.{AreThere}
 use Rattle.pc_headings.specs.Listing.{names_of, ShowsListed, ShowsPart}
@@ -35,6 +36,7 @@ pub AddsRow-none : (t : Tables) (block owner : ℕ) (listed : Listed) → AddsRo
 AddsRow-none t block owner listed = record {
   keeps = Keeps-same t;
   shows = λ means o l around place passed shown. record { hole_is = refl; entries_are = refl; lists = shown };
+  declared = λ before. before;
 }
 
 pub AddsRow-more : (a b c : Tables) (block owner : ℕ) (x y z : Listed) (ts : List Plain) (t : Plain) (p : Part) (i : ℕ) (hole new_hole : Bool) (had has : List Entry) → Every IsParameter ts → AreThere a block owner →
@@ -63,6 +65,7 @@ AddsRow-more a b c block owner x y z ts t p i hole new_hole had has params there
             ∙ sym (each-more (λ k. k.as_value.entries) out l ts t);
         lists = subst (λ (ds : List (List ℕ × Meaning)). ShowsListed (known c) c.declarations.items z ds) (sym (all_defines-more ns (node_at out m t)) ∙ ap all_defines (sym more)) told.1;
       };
+  declared = λ before. node.declared (row.declared before);
 }
 
 -- ---- a list of parameters
@@ -102,4 +105,5 @@ AddsParameters-row old new block owner t empty listed p is none row = record {
       (row.shows means o (first_place l kind.Params (kids_of t)) around (place-params o l (forest_of (kids_of t)) place) passed none) in
       subst (λ (a : Attributes). ShowsPart p a × ShowsListed (known new) new.declarations.items listed a.defines) (sym (list-rule (bare means) l t e))
       (record { hole = told.hole_is; entries = told.entries_are }, told.lists);
+  declared = row.declared (declared-none (length old.names.texts) (known old) old.declarations.items empty.parameters.items none.parameters);
 }

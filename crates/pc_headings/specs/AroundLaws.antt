@@ -77,4 +77,6 @@ Keeps-signatures old new types texts signatures declarations names = record {
   chains = record { more = []; is = ap (λ (t : Table). t.chains) names ∙ sym (append-nil old.names.chains) };
   distinct = λ d. subst (λ (t : Table). AreDistinct t.texts) (sym names) d;
   slots = λ b n. ap (λ (t : Table). slot_named t b n) names;
+  domains = record { more = []; is = ap (λ t. (seen t).domains) types ∙ sym (append-nil (known old).table.domains) };
+  owners = ap (λ t. (seen t).owners) types;
 }

@@ -70,6 +70,7 @@ node-value old new block owner before after t names type_name p proper e g = rec
       let told = g.shows means o es l lt (node_at out li names) around place.owner_is passed behind refl (are-names out li names parts.names_proper parts.names_are) listed in
       subst (λ (a : Attributes). ShowsPart p a × ShowsListed (known new) new.declarations.items after (es ++ a.defines)) (sym (at-form out l t (form.Valparam names type_name) proper e))
       (part-at p kind.Valparam t.word _ told.0, told.1);
+  declared = g.declared refl;
 }
 
 pub node-reference : (old new : Tables) (block owner : ℕ) (before after : Listed) (t names type_name : Plain) (p : Part) → IsProper t → form.Varparam names type_name ≡ form_of t →
@@ -85,6 +86,7 @@ node-reference old new block owner before after t names type_name p proper e g =
       let told = g.shows means o es l lt (node_at out li names) around place.owner_is passed behind refl (are-names out li names parts.names_proper parts.names_are) listed in
       subst (λ (a : Attributes). ShowsPart p a × ShowsListed (known new) new.declarations.items after (es ++ a.defines)) (sym (at-form out l t (form.Varparam names type_name) proper e))
       (part-at p kind.Varparam t.word _ told.0, told.1);
+  declared = g.declared refl;
 }
 
 -- ---- a hole
@@ -116,4 +118,5 @@ node-hole t block owner listed n s p e hole none = record {
     subst (λ (qs : List (List ℕ × Meaning)). ShowsListed (known t) t.declarations.items listed qs)
         (sym (append-nil es) ∙ ap (λ (ds : List (List ℕ × Meaning)). es ++ ds) (sym (hole-defines (bare means) l n s e))) shown,
   );
+  declared = λ before. before;
 }

@@ -13,7 +13,7 @@ use Rattle.pc_rules.specs.Declarations.{parameter_rule}
 use Rattle.pc_rules.specs.DeclaringNames.{names_in, repeats}
 use Rattle.pc_rules.specs.Denoters.{type_of_found, type_name_entries}
 use Rattle.pc_rules.specs.HandedOn.{any_hole, all_defines, kid_entries}
-use Rattle.pc_rules.specs.Meanings.{Found, Local, Meaning}
+use Rattle.pc_rules.specs.Meanings.{Found, Local, Meaning, is_routine_class}
 use Rattle.pc_rules.specs.Routines.{bare}
 use Rattle.pc_environment.specs.Decorating.{attributes_at, marks_of}
 use Rattle.pc_facts.specs.Known.{Known}
@@ -24,7 +24,7 @@ use Rattle.pc_headings.specs.declared.listed.Listed.{Listed}
 use Rattle.pc_headings.specs.declared.listed.Part.{Part}
 use Rattle.pc_headings.specs.declared.listed.UsedType.{UsedType}
 use Rattle.pc_headings.specs.Headed.{IsAround}
-use Rattle.pc_headings.specs.Listing.{names_of, named_nodes, ShowsListed, ShowsPart}
+use Rattle.pc_headings.specs.Listing.{names_of, named_nodes, ShowsListed, ShowsPart, AreListed}
 
 -- a place in the heading of a routine: nothing is declared, so names mean what they mean around it
 pub record IsHeadingPlace (o : Owner) (l : Local) : Type 0 where
@@ -53,6 +53,7 @@ pub record AddsGroup (old new : Tables) (block owner : ℕ) (c : NameClass) (bef
       IsHeadingPlace o lt → lt.using ≡ true → AreNames (kids_of names) a → ShowsListed (known old) old.declarations.items before es →
       ShowsPart p (parameter_rule l (meant c) a (node_at (bare means) lt type_name)) ×
       ShowsListed (known new) new.declarations.items after (es ++ (parameter_rule l (meant c) a (node_at (bare means) lt type_name)).defines)
+  pub declared : is_routine_class (meant c) ≡ false → AreListed old before → AreListed new after
 
 -- a node among the parameters was gone through: a group, or a hole
 pub record AddsNode (old new : Tables) (block owner : ℕ) (before after : Listed) (t : Plain) (p : Part) : Type 0 where
@@ -60,6 +61,7 @@ pub record AddsNode (old new : Tables) (block owner : ℕ) (before after : Liste
   pub shows : (means : List ℕ → Found) (o : Owner) (es : List (List ℕ × Meaning)) (l : Local) → IsAround old block owner means o → IsHeadingPlace o l → l.passed ≡ names_of es →
       ShowsListed (known old) old.declarations.items before es →
       ShowsPart p (attributes_at (bare means) l t) × ShowsListed (known new) new.declarations.items after (es ++ (attributes_at (bare means) l t).defines)
+  pub declared : AreListed old before → AreListed new after
 
 -- what was found at nodes among the parameters, in a row
 pub record ShowsRow (t : Tables) (g : Listed) (hole : Bool) (entries : List Entry) (ns : List Node) : Type 0 where
@@ -72,12 +74,14 @@ pub record AddsRow (old new : Tables) (block owner : ℕ) (before after : Listed
   pub keeps : Keeps old new
   pub shows : (means : List ℕ → Found) (o : Owner) (l : Local) → IsAround old block owner means o → IsHeadingPlace o l → l.passed ≡ [] → ShowsListed (known old) old.declarations.items before [] →
       ShowsRow new after hole entries (nodes (marks_of (bare means) l ts))
+  pub declared : AreListed old before → AreListed new after
 
 -- a list of parameters was gone through
 pub record AddsParameters (old new : Tables) (block owner : ℕ) (t : Plain) (listed : Listed) (p : Part) : Type 0 where
   pub keeps : Keeps old new
   pub shows : (means : List ℕ → Found) (o : Owner) (l : Local) → IsAround old block owner means o → IsHeadingPlace o l → l.passed ≡ [] →
       ShowsPart p (attributes_at (bare means) l t) × ShowsListed (known new) new.declarations.items listed (attributes_at (bare means) l t).defines
+  pub declared : AreListed new listed
 
 -- a node that may stand among parameters
 pub record IsParameter (t : Plain) : Type 0 where

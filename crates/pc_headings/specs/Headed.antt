@@ -18,7 +18,7 @@ use Rattle.pc_facts.specs.declared.sighting.Declared.{Declared}
 use Rattle.pc_places.specs.Places.{known, Keeps}
 use Rattle.pc_places.specs.Scenes.{SeesNames, ShowsUnsigned}
 use Rattle.pc_places.specs.declared.tables.Tables.{Tables}
-use Rattle.pc_places.specs.Parameters.{ShowsParameters}
+use Rattle.pc_places.specs.Parameters.{ShowsParameters, AreNamed, HaveNames, AreParameters}
 use Rattle.pc_headings.specs.declared.routine_heading.RoutineHeading.{RoutineHeading}
 
 -- from the block with this number names mean this, and the routine with that number is this one
@@ -42,7 +42,8 @@ signature_of k later m =
     else option_and_then (with_result k (type_of_found (result_in m).found)) (formals_in (params_in m).defines)
 
 -- What was made of the heading of a routine, given the block around it and its own number: its entries; and, unless it is a later
--- declaration, the first parameter of each name, and its signature.
+-- declaration, the first parameter of each name, and its signature. Whatever is around, the parameters have names and declarations by the
+-- tables, under these names, which are no routines'.
 pub record Headed (old new : Tables) (block owner : ℕ) (later : Bool) (t : Plain) (r : RoutineHeading) : Type 0 where
   pub keeps : Keeps old new
   pub entries : (means : List ℕ → Found) (o : Owner) → IsAround old block owner means o → r.entries.items ≡ entries_of_heading t.kind later (marks_in means o t)
@@ -50,3 +51,6 @@ pub record Headed (old new : Tables) (block owner : ℕ) (later : Bool) (t : Pla
       ShowsParameters (known new) new.declarations.items r.parameters.items (firsts [] (params_in (marks_in means o t)).defines)
   pub signature : (means : List ℕ → Found) (o : Owner) → later ≡ false → IsAround old block owner means o →
       ShowsSignatures (known new) r.signature (signature_of t.kind later (marks_in means o t))
+  pub are_named : AreNamed (length new.names.texts) r.parameters.items
+  pub have_names : HaveNames new.declarations.items r.parameters.items
+  pub fresh : AreParameters new.declarations.items r.parameters.items

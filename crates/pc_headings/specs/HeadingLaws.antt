@@ -1,5 +1,5 @@
 -- The heading of a routine, from what its parts make: lemmas.
-use Rattle.std.proofs.Common.{◌≡◌, ℕ, Bool, true, List, [], ◌++◌, Option, None, is_some, refl, ap, sym, subst, ◌∙◌, codes}
+use Rattle.std.proofs.Common.{◌≡◌, ℕ, Bool, true, List, [], ◌++◌, length, Option, None, is_some, refl, ap, sym, subst, ◌∙◌, codes}
 use Rattle.pc_syntax.specs.Classes.{has}
 use Rattle.pc_syntax.specs.Plain.{Plain}
 use Rattle.pc_syntax.specs.declared.kind.Kind.{Kind}
@@ -26,12 +26,13 @@ use Rattle.pc_places.specs.declared.parameter.Parameter.{Parameter}
 use Rattle.pc_headings.specs.declared.routine_heading.RoutineHeading.{RoutineHeading}
 use Rattle.pc_headings.specs.AroundLaws.{IsAround-keeps}
 use Rattle.pc_headings.specs.AtLaws.{at-word}
+use Rattle.pc_headings.specs.DeclaredLaws.{declared-keeps}
 use Rattle.pc_headings.specs.Groups.{AddsParameters, is_complex}
 use Rattle.pc_headings.specs.Headed.{AreThere}
 use Rattle.pc_places.specs.Parameters.{ShowsParameters}
 use Rattle.pc_headings.specs.Heads.{HeadsProcedure, HeadsFunction, AddsResult, function_entries}
 use Rattle.pc_headings.specs.ListedLaws.{ShowsListed-grows, IsNumber-grows}
-use Rattle.pc_headings.specs.Listing.{ShowsFormalsOf}
+use Rattle.pc_headings.specs.Listing.{AreDeclared, ShowsFormalsOf}
 use Rattle.pc_headings.specs.PlaceLaws.{sees-there}
 use Rattle.pc_headings.specs.SignatureLaws.{not_simple-complex}
 use Rattle.pc_headings.specs.Signatures.{signature_from, HasResult}
@@ -84,6 +85,7 @@ procedure-step a b c block owner params listed p r adds keeps es ps signs = reco
         signature = signed-as (known c) r p.hole n.at.hole (at_kid 2 n.at.as_value.entries) kind.Procedure t (formals_in n.at.defines) told.0.hole entries
             (signs (known c) kind.Procedure t (formals_in n.at.defines) refl lists.formals (refl, refl));
       };
+  declared = subst (λ (qs : List Parameter). AreDeclared (length c.names.texts) c.declarations.items qs) (sym ps) (declared-keeps b c listed.parameters.items keeps adds.declared);
 }
 
 pub function-step : (a b c d : Tables) (block owner : ℕ) (params result_type : Plain) (listed : Listed) (p : Part) (own : List Entry) (i : Option TypeId) (has : Bool) (r : RoutineHeading) → AreThere a block owner →
@@ -106,6 +108,7 @@ function-step a b c d block owner params result_type listed p own i has r there 
         signature = signed-as (known d) r p.hole n.at.hole (function_entries n m) kind.Function ty (formals_in n.at.defines) told.0.hole entries
             (signs (known d) kind.Function ty (formals_in n.at.defines) refl lists.formals (some, IsNumber-grows (known c).table (known d).table i ty keeps.grows.shapes of.1));
       };
+  declared = subst (λ (qs : List Parameter). AreDeclared (length d.names.texts) d.declarations.items qs) (sym ps) (declared-keeps b d listed.parameters.items after adds.declared);
 }
   where
     after : Keeps b d

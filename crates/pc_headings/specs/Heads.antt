@@ -1,5 +1,5 @@
 -- The parts of a heading, each gone through where it stands.
-use Rattle.std.specs.Prelude.{◌≡◌, ℕ, true, false, List, [], ◌++◌, Option}
+use Rattle.std.specs.Prelude.{◌≡◌, ℕ, true, false, List, [], ◌++◌, length, Option}
 use Rattle.pc_syntax.specs.Plain.{Plain}
 use Rattle.pc_syntax.specs.declared.kind.Kind.TheVariants as kind
 use Rattle.pc_types.specs.Shapes.{Owner, Typed}
@@ -17,6 +17,7 @@ use Rattle.pc_places.specs.declared.tables.Tables.{Tables}
 use Rattle.pc_headings.specs.declared.routine_heading.RoutineHeading.{RoutineHeading}
 use Rattle.pc_headings.specs.Groups.{IsHeadingPlace}
 use Rattle.pc_headings.specs.Headed.{IsAround}
+use Rattle.pc_headings.specs.Listing.{AreDeclared}
 use Rattle.pc_places.specs.Parameters.{ShowsParameters}
 use Rattle.pc_headings.specs.Signatures.{signature_from}
 
@@ -32,6 +33,7 @@ pub record HeadsProcedure (old new : Tables) (block owner : ℕ) (params : Plain
   pub shows : (means : List ℕ → Found) (o : Owner) (l : Local) (t : Option Typed) → IsAround old block owner means o → IsHeadingPlace o l → l.passed ≡ [] →
       let n = node_at (bare means) l params in
       ShowsHeading new r n (at_kid 2 n.at.as_value.entries) (signature_from n.at.hole (at_kid 2 n.at.as_value.entries) kind.Procedure t (formals_in n.at.defines))
+  pub declared : AreDeclared (length new.names.texts) new.declarations.items r.parameters.items
 
 -- the entries of a function's heading, given what is found at its parameters and at its result type
 abbrev pub function_entries : Node → Node → List Entry
@@ -44,6 +46,7 @@ pub record HeadsFunction (old new : Tables) (block owner : ℕ) (params result_t
       let n = node_at (bare means) l params in
       let result = node_at (bare means) (place_behind (bare means) l params) result_type in
       ShowsHeading new r n (function_entries n result) (signature_from n.at.hole (function_entries n result) kind.Function (type_of_found result.at.found) (formals_in n.at.defines))
+  pub declared : AreDeclared (length new.names.texts) new.declarations.items r.parameters.items
 
 -- a result type was gone through: its entries, and its number
 pub record AddsResult (old new : Tables) (block : ℕ) (result_type : Plain) (es : List Entry) (i : Option TypeId) : Type 0 where

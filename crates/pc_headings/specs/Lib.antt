@@ -2,6 +2,7 @@ pub mod Headed
 pub mod Listing
 pub mod ListLaws
 pub mod NameListLaws
+pub mod DeclaredLaws
 pub mod ListedLaws
 pub mod NamesLaws
 pub mod Groups

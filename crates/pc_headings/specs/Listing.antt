@@ -11,7 +11,7 @@ use Rattle.pc_rules.specs.Attributes.{Attributes, Node, Done, Entry, plain, at_k
 use Rattle.pc_rules.specs.DeclaringNames.{names_in, repeats, all_as}
 use Rattle.pc_rules.specs.Entries.{note_if, quoted}
 use Rattle.pc_rules.specs.Headings.{formals_in}
-use Rattle.pc_rules.specs.Meanings.{Meaning, Formal}
+use Rattle.pc_rules.specs.Meanings.{Meaning, Formal, is_routine_class}
 use Rattle.pc_rules.specs.Routines.{firsts}
 use Rattle.pc_facts.specs.Known.{Known}
 use Rattle.pc_facts.specs.Shows.{ShowsType, ShowsFormals}
@@ -23,7 +23,8 @@ use Rattle.pc_places.specs.declared.tables.Tables.{Tables}
 use Rattle.pc_headings.specs.declared.listed.Group.{Group}
 use Rattle.pc_headings.specs.declared.listed.Listed.{Listed}
 use Rattle.pc_headings.specs.declared.listed.Part.{Part}
-use Rattle.pc_places.specs.Parameters.{ShowsParameters}
+use Rattle.pc_places.specs.Parameters.{ShowsParameters, AreNamed, HaveNames, AreParameters}
+use Rattle.pc_places.specs.declared.parameter.Parameter.{Parameter}
 
 -- the names of declarations, in order
 abbrev pub names_of : List (List ℕ × Meaning) → List (List ℕ)
@@ -50,6 +51,16 @@ pub record ShowsListed (k : Known) (ds : List Declared) (g : Listed) (es : List 
   pub parameters : ShowsParameters k ds g.parameters.items (firsts [] es)
   pub formals : ShowsFormalsOf k g.is_whole g.formals.items (formals_in es)
   pub passed : HasPassed g.passed.texts (names_of es)
+
+-- the parameters have names, of so many, and declarations under these, which are no routines'
+pub record AreDeclared (names : ℕ) (ds : List Declared) (ps : List Parameter) : Type 0 where
+  pub are_named : AreNamed names ps
+  pub have_names : HaveNames ds ps
+  pub fresh : AreParameters ds ps
+
+-- the parameters so far are declared by these tables
+abbrev pub AreListed : Tables → Listed → Type 0
+AreListed t g = AreDeclared (length t.names.texts) t.declarations.items g.parameters.items
 
 -- what a group of parameters is declared as is this meaning
 pub record ShowsGroup (k : Known) (g : Group) (m : Meaning) : Type 0 where
@@ -79,12 +90,14 @@ pub record AddsName (old new : Tables) (g : Group) (before after : Listed) (i : 
   pub keeps : Keeps old new
   pub shows : (es : List (List ℕ × Meaning)) (m : Meaning) → ShowsListed (known old) old.declarations.items before es → ShowsGroup (known old) g m →
       (has ≡ had ++ repeat_at (names_of es) i (named_node t)) × ShowsListed (known new) new.declarations.items after (es ++ all_as m (names_in (named_node t ∷ [])))
+  pub declared : is_routine_class (meant g.class) ≡ false → AreListed old before → AreListed new after
 
 -- the same of names in a row, the first of which is kid 1
 pub record AddsNames (old new : Tables) (g : Group) (before after : Listed) (ts : List Plain) (found : List Entry) : Type 0 where
   pub keeps : Keeps old new
   pub shows : (es : List (List ℕ × Meaning)) (m : Meaning) → ShowsListed (known old) old.declarations.items before es → ShowsGroup (known old) g m →
       (found ≡ repeats (names_of es) 1 (named_nodes ts)) × ShowsListed (known new) new.declarations.items after (es ++ all_as m (names_in (named_nodes ts)))
+  pub declared : is_routine_class (meant g.class) ≡ false → AreListed old before → AreListed new after
 
 -- a part of a heading has the hole and the entries of this node
 pub record ShowsPart (p : Part) (a : Attributes) : Type 0 where

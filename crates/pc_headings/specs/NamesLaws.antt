@@ -3,16 +3,17 @@ use Rattle.std.proofs.Common.{◌≡◌, ℕ, ◌+◌, Bool, true, false, if◌t
 use Rattle.pc_syntax.specs.Plain.{Plain}
 use Rattle.pc_syntax.specs.Sorts.{is_hole}
 use Rattle.pc_syntax.specs.Words.{lowered, is_among}
+use Rattle.pc_names.specs.Standing.{meant}
 use Rattle.pc_rules.specs.Attributes.{Entry, at_kid}
 use Rattle.pc_rules.specs.DeclaringNames.{names_in, repeats, all_as}
 use Rattle.pc_rules.specs.Entries.{note_if, quoted}
-use Rattle.pc_rules.specs.Meanings.{Meaning}
+use Rattle.pc_rules.specs.Meanings.{Meaning, is_routine_class}
 use Rattle.pc_places.specs.Places.{known, Keeps}
 use Rattle.pc_places.specs.MovesLaws.{Keeps-same, Keeps-then}
 use Rattle.pc_places.specs.declared.tables.Tables.{Tables}
 use Rattle.pc_headings.specs.declared.listed.Group.{Group}
 use Rattle.pc_headings.specs.declared.listed.Listed.{Listed}
-use Rattle.pc_headings.specs.Listing.{names_of, ShowsListed, ShowsGroup, named_node, named_nodes, repeat_at, AddsName, AddsNames}
+use Rattle.pc_headings.specs.Listing.{names_of, AreListed, ShowsListed, ShowsGroup, named_node, named_nodes, repeat_at, AddsName, AddsNames}
 use Rattle.pc_headings.specs.ListLaws.{names_of-append, names_of-all_as, all_as-append}
 use Rattle.pc_headings.specs.NameListLaws.{names_in-append, named_nodes-more, repeats-more}
 use Rattle.pc_headings.specs.ListedLaws.{ShowsGroup-grows}
@@ -30,6 +31,7 @@ AddsName-hole a g x i t had hole = record {
     sym (append-nil had) ∙ ap (λ (xs : List Entry). had ++ xs) (sym (none es)),
     at-list a x es (es ++ all_as m (names_in (named_node t ∷ []))) (sym (append-nil es) ∙ ap (λ (ns : List (List ℕ)). es ++ all_as m ns) (sym no-name)) s,
   );
+  declared = λ class before. before;
 }
   where
     none : (es : List (List ℕ × Meaning)) → repeat_at (names_of es) i (named_node t) ≡ []
@@ -41,14 +43,16 @@ AddsName-hole a g x i t had hole = record {
 pub AddsName-name : (a b : Tables) (g : Group) (x y : Listed) (i : ℕ) (t : Plain) (had has : List Entry) (twice : Bool) → is_hole t.kind ≡ false → Keeps a b →
     has ≡ had ++ at_kid i (note_if twice 3 (quoted (codes "declared twice") t.word)) →
     ((es : List (List ℕ × Meaning)) (m : Meaning) → ShowsListed (known a) a.declarations.items x es → ShowsGroup (known a) g m →
-    (twice ≡ is_among (names_of es) (lowered t.word)) × ShowsListed (known b) b.declarations.items y (es ++ (lowered t.word, m) ∷ [])) → AddsName a b g x y i t had has
-AddsName-name a b g x y i t had has twice named keeps grown told = record {
+    (twice ≡ is_among (names_of es) (lowered t.word)) × ShowsListed (known b) b.declarations.items y (es ++ (lowered t.word, m) ∷ [])) →
+    (is_routine_class (meant g.class) ≡ false → AreListed a x → AreListed b y) → AddsName a b g x y i t had has
+AddsName-name a b g x y i t had has twice named keeps grown told declared = record {
   keeps = keeps;
   shows = λ es m s h.
       let told = told es m s h in (
         grown ∙ ap (λ (c : Bool). had ++ at_kid i (note_if c 3 (quoted (codes "declared twice") t.word))) told.0 ∙ ap (λ (xs : List Entry). had ++ xs) (sym (one es)),
         at-list b y (es ++ (lowered t.word, m) ∷ []) (es ++ all_as m (names_in (named_node t ∷ []))) (ap (λ (ns : List (List ℕ)). es ++ all_as m ns) (sym one-name)) told.1,
       );
+  declared = declared;
 }
   where
     one : (es : List (List ℕ × Meaning)) → repeat_at (names_of es) i (named_node t) ≡ at_kid i (note_if (is_among (names_of es) (lowered t.word)) 3 (quoted (codes "declared twice") t.word))
@@ -63,6 +67,7 @@ pub AddsNames-none : (a : Tables) (g : Group) (x : Listed) → AddsNames a a g x
 AddsNames-none a g x = record {
   keeps = Keeps-same a;
   shows = λ es m s h. (refl, at-list a x es (es ++ []) (sym (append-nil es)) s);
+  declared = λ class before. before;
 }
 
 all-more : (m : Meaning) (es : List (List ℕ × Meaning)) (ts : List Plain) (t : Plain) →
@@ -89,4 +94,5 @@ AddsNames-more a b c g x y z ts t i had has number row one = record {
             ∙ sym (repeats-more (names_of es) ts t),
         at-list c z ((es ++ all_as m ns) ++ all_as m (names_in (named_node t ∷ []))) (es ++ all_as m (names_in (named_nodes (ts ++ t ∷ [])))) (all-more m es ts t) second.1,
       );
+  declared = λ class before. one.declared class (row.declared class before);
 }

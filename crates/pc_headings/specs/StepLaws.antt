@@ -24,6 +24,7 @@ use Rattle.pc_headings.specs.declared.listed.Group.{Group}
 use Rattle.pc_headings.specs.declared.listed.Listed.{Listed}
 use Rattle.pc_headings.specs.declared.listed.Part.{Part}
 use Rattle.pc_headings.specs.declared.listed.UsedType.{UsedType}
+use Rattle.pc_headings.specs.DeclaredLaws.{declared-keeps}
 use Rattle.pc_headings.specs.Groups.{ShowsUsed, AddsGroup}
 use Rattle.pc_headings.specs.Headed.{AreThere}
 use Rattle.pc_headings.specs.ListedLaws.{ShowsListed-grows}
@@ -70,4 +71,5 @@ group-step a b c block owner class before after names type_name u i found hole p
         },
         subst (λ (ns : List (List ℕ)). ShowsListed (known c) c.declarations.items after (es ++ all_as m ns)) (sym are.names) told.1,
       );
+  declared = λ is listed. row.declared is (declared-keeps a b before.parameters.items keeps listed);
 }

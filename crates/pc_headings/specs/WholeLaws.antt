@@ -1,5 +1,5 @@
 -- The whole heading of a routine: lemmas.
-use Rattle.std.proofs.Common.{◌≡◌, ℕ, true, false, List, [], ◌∷◌, Option, None, refl, ap, sym, subst, ◌∙◌}
+use Rattle.std.proofs.Common.{◌≡◌, ℕ, true, false, List, [], ◌∷◌, length, Option, None, refl, ap, sym, subst, ◌∙◌}
 use Rattle.pc_syntax.specs.Classes.{has}
 use Rattle.pc_syntax.specs.Plain.{Plain, kids_of}
 use Rattle.pc_syntax.specs.declared.class.Class.TheVariants as class
@@ -25,7 +25,7 @@ use Rattle.pc_headings.specs.Groups.{IsHeadingPlace}
 use Rattle.pc_headings.specs.HeadLaws.{params-at, function-params-at, result-at, name-passed}
 use Rattle.pc_headings.specs.FunbodyLaws.{funbody-defines, funbody-signature}
 use Rattle.pc_headings.specs.Headed.{IsAround, Headed, marks_in, signature_of}
-use Rattle.pc_places.specs.Parameters.{ShowsParameters}
+use Rattle.pc_places.specs.Parameters.{ShowsParameters, AreNamed, HaveNames, AreParameters}
 use Rattle.pc_headings.specs.Heads.{ShowsHeading, HeadsProcedure, HeadsFunction, function_entries}
 use Rattle.pc_headings.specs.Parts.{HasParameters, HasResultType}
 use Rattle.pc_headings.specs.PlaceLaws.{place-start, place-name, place-beside, place-pass_all}
@@ -71,6 +71,9 @@ heading-procedure a b block owner t params r e parts h = record {
       (sym (ap (λ (k : Kind). signature_of k false (marks_in means o t)) e
       ∙ procedure-signature kind.Procedure (params_in (marks_in means o t)) (node_at (bare means) (behind_name means o parts.name) params) ty refl (params-at means o t params parts)))
       (shown-procedure a b block owner t params r parts h means o ty around).signature;
+  are_named = h.declared.are_named;
+  have_names = h.declared.have_names;
+  fresh = h.declared.fresh;
 }
 
 shown-function : (a b : Tables) (block owner : ℕ) (t params result_type : Plain) (r : RoutineHeading) (parts : HasResultType t params result_type) → HeadsFunction a b block owner params result_type r →
@@ -104,6 +107,9 @@ heading-function a b block owner t params result_type r e parts h = record {
       (sym (ap (λ (k : Kind). signature_of k false (marks_in means o t)) e
       ∙ (λ i. signature_from (p i).at.hole (function_entries (p i) (q i)) kind.Function (type_of_found (q i).at.found) (formals_in (p i).at.defines))))
       (shown-function a b block owner t params result_type r parts h means o around).signature;
+  are_named = h.declared.are_named;
+  have_names = h.declared.have_names;
+  fresh = h.declared.fresh;
 }
 
 -- a function whose heading was given before
@@ -120,17 +126,23 @@ heading-funbody a block owner t name body r e kids is block_is es ps s = record 
       subst (λ (x : Option Signature). ShowsSignatures (known a) r.signature x)
       (sym (ap (λ (k : Kind). signature_of k false marks) e ∙ funbody-signature _ (type_of_found (result_in marks).at.found) (formals_in (params_in marks).at.defines)))
       (subst (λ (i : Option SignatureId). ShowsSignatures (known a) i None) (sym s) tt);
+  are_named = subst (λ (qs : List Parameter). AreNamed (length a.names.texts) qs) (sym ps) tt;
+  have_names = subst (λ (qs : List Parameter). HaveNames a.declarations.items qs) (sym ps) tt;
+  fresh = subst (λ (qs : List Parameter). AreParameters a.declarations.items qs) (sym ps) tt;
 }
 
 true-false : {X : Type 0} → true ≡ false → X
 true-false e = cc
 
 -- a later declaration
-pub heading-later : (a b : Tables) (block owner : ℕ) (t : Plain) (r : RoutineHeading) → Keeps a b →
+pub heading-later : (a b : Tables) (block owner : ℕ) (t : Plain) (r : RoutineHeading) → Keeps a b → r.parameters.items ≡ [] →
     ((means : List ℕ → Found) (o : Owner) → SeesNames (known a) a.names a.declarations.items block [] means → r.entries.items ≡ entries_of_heading t.kind true (marks_in means o t)) → Headed a b block owner true t r
-heading-later a b block owner t r keeps es = record {
+heading-later a b block owner t r keeps ps es = record {
   keeps = keeps;
   entries = λ means o around. es means o around.sees;
   parameters = λ means o e around. true-false e;
   signature = λ means o e around. true-false e;
+  are_named = subst (λ (qs : List Parameter). AreNamed (length b.names.texts) qs) (sym ps) tt;
+  have_names = subst (λ (qs : List Parameter). HaveNames b.declarations.items qs) (sym ps) tt;
+  fresh = subst (λ (qs : List Parameter). AreParameters b.declarations.items qs) (sym ps) tt;
 }

@@ -1,16 +1,17 @@
 //! The names of a group of parameters (ISO 7185, 6.6.3.1).
 
-ghost use Rattle.std.specs.Prelude.{◌≡◌, ◌+◌, ◌++◌, ◌∷◌, [], ℕ, List, Option, Some, is_some, length, slice_get, if◌then◌else◌, IfOk, OnOk};
+ghost use Rattle.std.specs.Prelude.{◌≡◌, ◌<◌, ◌+◌, ◌++◌, ◌∷◌, [], ℕ, false, List, Option, Some, is_some, length, slice_get, if◌then◌else◌, IfOk, OnOk};
 ghost use Rattle.pc_syntax.specs.Plain.{kids_of};
 ghost use Rattle.pc_syntax.specs.Words.{lowered, is_among};
+ghost use Rattle.pc_names.specs.Standing.{meant};
 ghost use Rattle.pc_rules.specs.HandedOn.{any_hole};
-ghost use Rattle.pc_rules.specs.Meanings.{Meaning, Formal as Meant};
+ghost use Rattle.pc_rules.specs.Meanings.{Meaning, Formal as Meant, is_routine_class};
 ghost use Rattle.pc_rules.specs.NameClasses as rules;
 ghost use Rattle.pc_facts.specs.Known.{Known};
 ghost use Rattle.pc_growth.specs.Grows.{Begins};
 ghost use Rattle.pc_places.specs.Places.{known, Keeps};
 ghost use Rattle.pc_places.specs.Parameters.{ShowsParameters};
-ghost use Rattle.pc_headings.specs.Listing.{names_of, HasPassed, ShowsFormalsOf, with_formal, ShowsListed, ShowsGroup, named_nodes, AddsName, AddsNames};
+ghost use Rattle.pc_headings.specs.Listing.{names_of, HasPassed, ShowsFormalsOf, with_formal, AreDeclared, AreListed, ShowsListed, ShowsGroup, named_nodes, AddsName, AddsNames};
 
 use crate::listed::{Group, Listed};
 use pc_facts::{Declared, Formal, add_kid, add_note_if, either};
@@ -73,6 +74,7 @@ fn add_word(
 ) -> Result<bool, AllocError>
     ensures keeps { OnOk result (Keeps tables.old tables.new) }
     ensures shows { IfOk result (λ twice. (es : List (List ℕ × Meaning)) (m : Meaning) → ShowsListed (known tables.old) tables.old.declarations.items listed.old es → ShowsGroup (known tables.old) group m → (twice ≡ is_among (names_of es) (lowered word.now)) × ShowsListed (known tables.new) tables.new.declarations.items listed.new (es ++ (lowered word.now, m) ∷ [])) }
+    ensures declared { OnOk result (is_routine_class (meant group.class) ≡ false → AreListed tables.old listed.old → AreListed tables.new listed.new) }
 {
     let name = number(tables, word)?;
     let twice = put_passed(&mut listed.passed, tables.names.name(name), word)?;
@@ -107,6 +109,7 @@ fn add_first(
 ) -> Result<(), AllocError>
     ensures begins { OnOk result (Begins declarations.old.items declarations.new.items) }
     ensures parameters { OnOk result ((k : Known) (es : List (List ℕ × Meaning)) (n : List ℕ) (m : Meaning) → ShowsParameters k declarations.old.items parameters.old.items es → slice_get k.names name.0 ≡ Some n → ShowsGroup k group m → ShowsParameters k declarations.new.items parameters.new.items (es ++ (if twice then [] else (n, m) ∷ []))) }
+    ensures declared { OnOk result ((names : ℕ) → name.0 < names → is_routine_class (meant group.class) ≡ false → AreDeclared names declarations.old.items parameters.old.items → AreDeclared names declarations.new.items parameters.new.items) }
 {
     if !twice {
         add_parameter(declarations, parameters, group, name)?;
@@ -123,6 +126,7 @@ fn add_parameter(
 ) -> Result<(), AllocError>
     ensures begins { OnOk result (Begins declarations.old.items declarations.new.items) }
     ensures parameters { OnOk result ((k : Known) (es : List (List ℕ × Meaning)) (n : List ℕ) (m : Meaning) → ShowsParameters k declarations.old.items parameters.old.items es → slice_get k.names name.0 ≡ Some n → ShowsGroup k group m → ShowsParameters k declarations.new.items parameters.new.items (es ++ (n, m) ∷ [])) }
+    ensures declared { OnOk result ((names : ℕ) → name.0 < names → is_routine_class (meant group.class) ≡ false → AreDeclared names declarations.old.items parameters.old.items → AreDeclared names declarations.new.items parameters.new.items) }
 {
     let id = u32_of(declarations.len())?;
     declarations.push(Declared {

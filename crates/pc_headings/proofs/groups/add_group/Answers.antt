@@ -15,7 +15,7 @@ returns c =
     let used = c.in_ok-used.used in
     let more = c.in_ok-number.ensures.extended in
     let b = record a { types = c.number_of.new.types; small = c.used_type.new.small } in
-    let keeps = Keeps-types a b (record { more = more.more_shapes; is = more.shapes }) (record { more = more.more_owners; is = more.owners }) refl refl refl refl in
+    let keeps = Keeps-types a b (record { more = more.more_shapes; is = more.shapes }) more.owners (record { more = more.more_domains; is = more.domains }) refl refl refl refl in
     group-step a b c.add_names.new.tables c.args.outer.0 c.args.owner c.args.named c.args.listed.now c.add_names.new.listed c.args.names.now c.args.type_name.now used c.in_ok-number.number c.in_ok-own.own.items c.has_hole.result _
     c.requires.there keeps
     (λ means l using sees. c.in_ok-used.ensures (known a) means l using refl (subst (λ (ds : List Declared). SeesNames (known a) a.names ds c.args.outer.0 [] (find (bare means) l)) (sym c.as_slice.ensures.value) sees))

@@ -15,7 +15,7 @@ returns-in_ok-entries c =
     let b = record a { small = c.later_entries.new.small } in
     let r : RoutineHeading = record { entries = c.in_ok-entries.entries; parameters = c.new.result; signature = None } in
     subst (λ (later : Bool). Headed a b c.args.outer.0 c.args.owner.0 later c.args.node.now r) (sym c.if-later.true)
-    (heading-later a b c.args.outer.0 c.args.owner.0 c.args.node.now r (Keeps-texts a b refl (Begins-same a.texts.items) refl refl refl)
+    (heading-later a b c.args.outer.0 c.args.owner.0 c.args.node.now r (Keeps-texts a b refl (Begins-same a.texts.items) refl refl refl) c.new.ensures.items
     (λ means o sees. c.in_ok-entries.ensures (known a) means o refl (subst (λ (ds : List Declared). SeesNames (known a) a.names ds c.args.outer.0 [] means) (sym c.as_slice.ensures.value) sees)))
 
 pub returns-in_ok-found : goal.returns-in_ok-found

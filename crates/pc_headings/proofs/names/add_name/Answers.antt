@@ -26,3 +26,4 @@ returns-in_ok-add_kid c =
     ∙ ap (λ (w : List ℕ). note_if twice 3 (quoted (codes "declared twice") w)) word))
     (λ es m s g. subst (λ (w : List ℕ). let one : List (List ℕ × Meaning) = (lowered w, m) ∷ [] in (twice ≡ is_among (names_of es) (lowered w)) × ShowsListed (known new) new.declarations.items c.add_word.new.listed (es ++ one)) word
     (c.in_ok-twice.ensures.shows es m s g))
+    c.in_ok-twice.ensures.declared

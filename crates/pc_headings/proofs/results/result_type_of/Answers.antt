@@ -16,7 +16,7 @@ returns c =
     let more = c.in_ok-number.ensures.extended in
     let b = record a { types = c.number_of.new.types; small = c.used_type.new.small } in
     let wrong = c.is_complex-is_wrong.result in
-    let keeps = Keeps-types a b (record { more = more.more_shapes; is = more.shapes }) (record { more = more.more_owners; is = more.owners }) refl refl refl refl in
+    let keeps = Keeps-types a b (record { more = more.more_shapes; is = more.shapes }) more.owners (record { more = more.more_domains; is = more.domains }) refl refl refl refl in
     result-step a b c.args.outer.0 c.args.node.now used c.in_ok-number.number wrong _ keeps
     (λ means l using sees. c.in_ok-used.ensures (known a) means l using refl (subst (λ (ds : List Declared). SeesNames (known a) a.names ds c.args.outer.0 [] (find (bare means) l)) (sym c.as_slice.ensures.value) sees))
     c.is_complex-is_wrong.ensures c.in_ok-number.ensures.number
