@@ -1,6 +1,6 @@
 -- The lists of variables and routines of a block: what names mean behind them.
-use Rattle.std.proofs.Common.{◌≡◌, ℕ, Bool, true, false, if◌then◌else◌, List, [], ◌∷◌, ◌++◌, Option, Some, None, refl, sym, ◌∙◌, ap, subst}
-use Rattle.std.proofs.lemmas.Bool.{true≢false, false≢true}
+use Rattle.std.proofs.Common.{◌≡◌, ℕ, Bool, true, false, if◌then◌else◌, List, [], ◌∷◌, ◌++◌, refl, sym, ◌∙◌, ap, subst}
+use Rattle.std.proofs.lemmas.Bool.{false≢true}
 use Rattle.std.specs.Prelude.{get_or}
 use Rattle.pc_syntax.specs.declared.kind.Kind.{Kind}
 use Rattle.pc_syntax.specs.declared.kind.Kind.TheVariants as kind
@@ -13,15 +13,15 @@ use Rattle.pc_rules.specs.DeclaringNames.{declares}
 use Rattle.pc_rules.specs.Declarations.{is_later_declaration}
 use Rattle.pc_rules.specs.Decorated.{Seen, seen, rule, decorate}
 use Rattle.pc_rules.specs.HandedOn.{all_defines}
-use Rattle.pc_rules.specs.Meanings.{Class, ProcedureName, FunctionName, Meaning, Found, Local, Outside, declared_as, entry_of, known_or, later_or, field_or, find, define, define_all}
-use Rattle.pc_rules.specs.NameClasses.{is_type_class}
+use Rattle.pc_rules.specs.Meanings.{ProcedureName, FunctionName, Meaning, Local, Outside, declared_as, find, define, define_all}
 use Rattle.pc_rules.specs.Places.{inner, beside}
 use Rattle.pc_environment.specs.Decorating.{attributes_at, below_at, place_behind}
-use Rattle.pc_pointers.specs.Good.{Targets, IsGoodFound, GoodPlace}
-use Rattle.pc_closed.specs.Settled.{AllGoodBeside}
+use Rattle.pc_pointers.specs.Good.{Targets, IsGoodFound}
 use Rattle.pc_carrying.specs.Carrying.{CarriedPlace, KnownCarried, AllDenoting}
 use Rattle.pc_carrying.specs.Parts.{AllBeside, IsSettledPart, GoodHeadings, IsGoodBehind, is_variable, AllVariables, is_routine, AllRoutines}
 use Rattle.pc_carrying.specs.KnownLaws.{beside-carried, beside-both}
+use Rattle.pc_carrying.specs.LaterLaws.{inner-later, beside-later}
+use Rattle.pc_carrying.specs.ConfinedLaws.{moved-place}
 use Rattle.pc_carrying.specs.VariableLaws.{variables-settled, good-both, defined-good}
 
 -- ---- parts
@@ -44,8 +44,8 @@ variable-settled targets out l k w ks e a g = absurd (false≢true e)
 
 variable-next : (targets : Targets) (own : List Domain) (out : Outside) (l : Local) (k : Kind) (a : Attributes) → is_variable k ≡ true → AllBeside a.defines → CarriedPlace targets own out l →
     CarriedPlace targets own out (beside l k a)
-variable-next targets own out l kind.Vardef a e h g = record { known = beside-carried targets own l a.defines h g.known; outside = g.outside }
-variable-next targets own out l (kind.Hole s) a e h g = record { known = g.known; outside = g.outside }
+variable-next targets own out l kind.Vardef a e h g = moved-place targets own out l (beside l kind.Vardef a) (beside-later l kind.Vardef a) (beside-carried targets own l a.defines h g.known) g
+variable-next targets own out l (kind.Hole s) a e h g = moved-place targets own out l (beside l (kind.Hole s) a) (beside-later l (kind.Hole s) a) g.known g
 variable-next targets own out l k a e h g = absurd (false≢true e)
 
 -- where it stands
@@ -148,17 +148,15 @@ list-behind targets out l t e h r g =
     let a = attributes_at out l t in
     let o = list-opens l t.kind t.word (seen out l t.kind t.word) (below_at out l t) e in
     record {
-      place = record {
-        known = subst (KnownCarried targets []) (sym (list-known l t.kind a e)) (beside-carried targets [] l a.defines h.beside g.place.known);
-        outside = g.place.outside;
-      };
+      place = moved-place targets [] out l (place_behind out l t) (beside-later l t.kind a)
+          (subst (KnownCarried targets []) (sym (list-known l t.kind a e)) (beside-carried targets [] l a.defines h.beside g.place.known)) g.place;
       good = λ n. subst (IsGoodFound targets) (sym (list-find out l t.kind a n e o)) (defined-good targets out l a.defines r h g.good n);
     }
 
 -- the first kid of a list of variables
 vars-inner : (targets : Targets) (own : List Domain) (out : Outside) (l : Local) (k : Kind) (ks : Forest) → is_list k ≡ true → CarriedPlace targets own out l → CarriedPlace targets own out (inner l k ks)
-vars-inner targets own out l kind.Vars ks e g = record { known = g.known; outside = g.outside }
-vars-inner targets own out l kind.Routines ks e g = record { known = g.known; outside = g.outside }
+vars-inner targets own out l kind.Vars ks e g = moved-place targets own out l (inner l kind.Vars ks) (inner-later l kind.Vars ks) g.known g
+vars-inner targets own out l kind.Routines ks e g = moved-place targets own out l (inner l kind.Routines ks) (inner-later l kind.Routines ks) g.known g
 vars-inner targets own out l k ks e g = absurd (false≢true e)
 
 pub variables-behind : (targets : Targets) (out : Outside) (l : Local) (t : Plain) → t.kind ≡ kind.Vars → AllVariables t.kids → GoodHeadings targets out → IsGoodBehind targets out l →

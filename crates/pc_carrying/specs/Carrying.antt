@@ -5,9 +5,10 @@ use Rattle.pc_syntax.specs.declared.kind.Kind.TheVariants as kind
 use Rattle.pc_syntax.specs.Plain.{Forest, Nil, Cons}
 use Rattle.pc_syntax.specs.Sorts.{is_hole}
 use Rattle.pc_syntax.specs.Words.{lowered}
-use Rattle.pc_types.specs.Shapes.{Domain}
+use Rattle.pc_types.specs.Shapes.{Owner, Domain}
+use Rattle.pc_types.specs.Domains.{stands_in}
 use Rattle.pc_rules.specs.Attributes.{Attributes, Marked, Done, Mark, Node}
-use Rattle.pc_rules.specs.Meanings.{Value, Meaning, Found, Here, Required, Missing, Local, Outside, entry_of}
+use Rattle.pc_rules.specs.Meanings.{Class, Value, Meaning, Found, Here, Later, Required, Missing, Local, Outside, entry_of, find}
 use Rattle.pc_rules.specs.NameClasses.{is_type_class}
 use Rattle.pc_pointers.specs.Good.{Targets}
 use Rattle.pc_closed.specs.Settled.{leads_nowhere}
@@ -37,10 +38,19 @@ KnownCarried targets own ds = (n : List ℕ) (m : Meaning) → entry_of ds n ≡
 abbrev pub CarriedAround : Targets → List Domain → Outside → Type 0
 CarriedAround targets own out = (n : List ℕ) → IsCarriedName targets own n (out.means n)
 
--- the same of what names mean at a place
+-- of a name that is declared later the targets say nothing in a block, unless it is one of its own types
+abbrev pub IsConfinedName : Targets → List Domain → Owner → List ℕ → Found → Type 0
+IsConfinedName targets own o n f = (c : Class) → f ≡ Later c → stands_in own o n ≡ false → targets o n ≡ None
+
+-- the same of what each name means at a place
+abbrev pub ConfinedPlace : Targets → List Domain → Outside → Local → Type 0
+ConfinedPlace targets own out l = (n : List ℕ) (c : Class) → find out l n ≡ Later c → stands_in own l.owner n ≡ false → targets l.owner n ≡ None
+
+-- what names mean at a place is carried
 pub record CarriedPlace (targets : Targets) (own : List Domain) (out : Outside) (l : Local) : Type 0 where
   pub known : KnownCarried targets own l.known
   pub outside : CarriedAround targets own out
+  pub confined : ConfinedPlace targets own out l
 
 -- a declaration that is no type and has no type: that of a constant
 pub record IsPlain (m : Meaning) : Type 0 where

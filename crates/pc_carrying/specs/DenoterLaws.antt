@@ -1,19 +1,21 @@
 -- The nodes at and below denoters are carried, from what names mean at their place on.
-use Rattle.std.proofs.Common.{◌≡◌, ℕ, Bool, true, false, if◌then◌else◌, List, [], ◌∷◌, refl, sym, ◌∙◌, ap, subst}
+use Rattle.std.proofs.Common.{◌≡◌, ℕ, Bool, true, false, if◌then◌else◌, List, refl, sym, subst}
 use Rattle.std.proofs.lemmas.Bool.{false≢true}
 use Rattle.pc_syntax.specs.declared.kind.Kind.{Kind}
 use Rattle.pc_syntax.specs.declared.kind.Kind.TheVariants as kind
 use Rattle.pc_syntax.specs.Plain.{Forest, Nil, Cons, Plain}
 use Rattle.pc_syntax.specs.Words.{lowered}
 use Rattle.pc_types.specs.Shapes.{Domain}
-use Rattle.pc_rules.specs.Attributes.{Attributes, Marked, nodes}
+use Rattle.pc_rules.specs.Attributes.{Attributes, nodes}
 use Rattle.pc_rules.specs.Decorated.{Seen, unseen, seen, rule, decorate}
-use Rattle.pc_rules.specs.Meanings.{Meaning, Local, Outside, find, define_all}
-use Rattle.pc_rules.specs.Places.{inner, behind, beside}
+use Rattle.pc_rules.specs.Meanings.{Local, Outside, find, define_all}
+use Rattle.pc_rules.specs.Places.{inner, beside}
 use Rattle.pc_environment.specs.Decorating.{attributes_at, below_at, place_behind}
 use Rattle.pc_pointers.specs.Good.{Targets}
 use Rattle.pc_carrying.specs.Carrying.{IsCarriedName, CarriedPlace, KnownCarried, IsCarriedAt, CarriedMarks, is_denoting, AllDenoting}
 use Rattle.pc_carrying.specs.KnownLaws.{found-carried, plain-beside, beside-carried, SameNames}
+use Rattle.pc_carrying.specs.LaterLaws.{StaysLater, inner-later, beside-later, later-before}
+use Rattle.pc_carrying.specs.ConfinedLaws.{AllConfined, row-confined, moved-place}
 use Rattle.pc_carrying.specs.RuleLaws.{rule-carried}
 
 -- the first kid of such a node sees the names that it does
@@ -64,8 +66,8 @@ beside-place targets own l (kind.Hole s) a e g h = g
 beside-place targets own l k a e g h = absurd (false≢true e)
 
 -- places with the same names
-pub same-place : (targets : Targets) (own : List Domain) (out : Outside) (l m : Local) → m.known ≡ l.known → CarriedPlace targets own out l → CarriedPlace targets own out m
-same-place targets own out l m e h = record { known = subst (KnownCarried targets own) (sym e) h.known; outside = h.outside }
+pub same-place : (targets : Targets) (own : List Domain) (out : Outside) (l m : Local) → StaysLater l m → m.known ≡ l.known → CarriedPlace targets own out l → CarriedPlace targets own out m
+same-place targets own out l m k e h = moved-place targets own out l m k (subst (KnownCarried targets own) (sym e) h.known) h
 
 either-seen : (targets : Targets) (own : List Domain) (n : List ℕ) (b : Bool) (s t : Seen) → IsCarriedName targets own n s.found → IsCarriedName targets own n t.found →
     IsCarriedName targets own n (if b then s else t).found
@@ -81,18 +83,23 @@ seen-carried targets own out l k w g = tt
 -- behind a node that is carried
 next-place : (targets : Targets) (own : List Domain) (out : Outside) (l : Local) (k : Kind) (a : Attributes) → is_denoting k ≡ true → IsCarriedAt targets own a →
     CarriedPlace targets own out l → CarriedPlace targets own out (beside l k a)
-next-place targets own out l k a e h g = record {
-  known = beside-place targets own l k a e g.known (beside-carried targets own l a.defines (plain-beside a.defines h.declared) g.known);
-  outside = g.outside;
-}
+next-place targets own out l k a e h g =
+    moved-place targets own out l (beside l k a) (beside-later l k a)
+    (beside-place targets own l k a e g.known (beside-carried targets own l a.defines (plain-beside a.defines h.declared) g.known)) g
+
+-- the names in the row below a node
+below-confined : (targets : Targets) (own : List Domain) (out : Outside) (l : Local) (k : Kind) (ks : Forest) → AllDenoting ks → CarriedPlace targets own out l →
+    AllConfined targets own l.owner (nodes (decorate out (inner l k ks) ks))
+below-confined targets own out l k ks a g =
+    row-confined targets own l.owner out (inner l k ks) ks a (λ n c e s. g.confined n c (later-before out l (inner l k ks) n c (inner-later l k ks) e) s)
 
 -- all nodes at and below denoters
 pub marks-carried : (targets : Targets) (own : List Domain) (out : Outside) (l : Local) (f : Forest) → AllDenoting f → CarriedPlace targets own out l → CarriedMarks targets own (decorate out l f)
 unfolding decorate
 marks-carried targets own out l Nil a g = tt
 marks-carried targets own out l (Cons k w ns ks ts) a g =
-    let below = marks-carried targets own out (inner l k ks) ks a.1 (same-place targets own out l (inner l k ks) (inner-names l k ks a.0).known g) in
-    let here = rule-carried targets own l k w (seen out l k w) (decorate out (inner l k ks) ks) a.0 (seen-carried targets own out l k w g) below in
+    let below = marks-carried targets own out (inner l k ks) ks a.1 (same-place targets own out l (inner l k ks) (inner-later l k ks) (inner-names l k ks a.0).known g) in
+    let here = rule-carried targets own l k w (seen out l k w) (decorate out (inner l k ks) ks) a.0 (seen-carried targets own out l k w g) below (below-confined targets own out l k ks a.1 g) in
     let next = beside l k (rule l k w (seen out l k w) (decorate out (inner l k ks) ks)) in
     (here, below, marks-carried targets own out next ts a.2 (next-place targets own out l k _ a.0 here g))
 

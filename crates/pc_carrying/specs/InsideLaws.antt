@@ -1,20 +1,20 @@
 -- Blocks inside a block: what names mean around them, and their parameters.
-use Rattle.std.proofs.Common.{◌≡◌, ℕ, Bool, true, false, ◌||◌, if◌then◌else◌, List, [], ◌∷◌, Option, Some, None, codes, option_map, refl, sym, ◌∙◌, ap, subst}
-use Rattle.std.proofs.lemmas.Bool.{true≢false}
+use Rattle.std.proofs.Common.{◌≡◌, ℕ, Bool, true, false, ◌||◌, if◌then◌else◌, List, [], ◌∷◌, Option, Some, None, codes, option_map, refl, subst}
 use Rattle.std.specs.Str.{bytes_eq}
 use Rattle.pc_syntax.specs.Words.{is_among}
-use Rattle.pc_types.specs.Shapes.{Owner, Keyed, Domain, Shape, IntegerType, BooleanType, CharType, Typed}
-use Rattle.pc_types.specs.Domains.{stands_in}
+use Rattle.pc_types.specs.Shapes.{Owner, Keyed, Domain, IntegerType, BooleanType, CharType, Typed}
 use Rattle.pc_rules.specs.Denoters.{type_of_found, typed}
-use Rattle.pc_rules.specs.Meanings.{Class, Meaning, Found, Here, Later, Component, Required, Missing, Local, Outside, declared_as, entry_of, find}
+use Rattle.pc_rules.specs.Meanings.{Class, Meaning, Found, Here, Later, Component, Required, Missing, Local, Outside, declared_as, entry_of}
 use Rattle.pc_rules.specs.NameClasses.{is_type_class}
 use Rattle.pc_rules.specs.RequiredMeanings.{required_type, required_or_missing}
 use Rattle.pc_scope.specs.Required.{is_required_type, is_required_constant, is_required_function, is_required_procedure, is_required_file}
 use Rattle.pc_rules.specs.Routines.{firsts}
-use Rattle.pc_pointers.specs.Good.{Targets, IsGoodType, IsGoodFound, LeadsIfAny}
+use Rattle.pc_pointers.specs.Good.{Targets, IsGood, IsGoodType, IsGoodFound}
 use Rattle.pc_closed.specs.Settled.{AllAgreeApart, AllGoodBeside}
-use Rattle.pc_closed.specs.Carried.{IsCarried, IsCarriedType, IsCarriedFound, AllTypesCarried}
-use Rattle.pc_carrying.specs.Carrying.{IsCarriedMeaning, IsCarriedName, KnownCarried, CarriedAround}
+use Rattle.pc_closed.specs.ApartLaws.{leads-apart, lead-apart}
+use Rattle.pc_closed.specs.TogetherLaws.{together-law}
+use Rattle.pc_closed.specs.Carried.{IsCarriedType, AllTypesCarried}
+use Rattle.pc_carrying.specs.Carrying.{IsCarriedMeaning, IsCarriedName, KnownCarried, CarriedAround, ConfinedPlace}
 use Rattle.pc_carrying.specs.Parts.{IsParameter, AllParameters, IsCarriedStart}
 use Rattle.pc_carrying.specs.KnownLaws.{plain-meaning}
 use Rattle.pc_carrying.specs.NodeLaws.{type-carried}
@@ -27,7 +27,15 @@ all-apart targets own (d ∷ ds) h = ((λ s. h.0 refl), all-apart targets own ds
 
 type-apart : (targets : Targets) (own : List Domain) (t : Option Typed) → IsCarriedType targets [] t → IsCarriedType targets own t
 type-apart targets own None h = tt
-type-apart targets own (Some t) h = record { others = all-apart targets own t.domains h.others; hosts = h.hosts; further = h.further }
+type-apart targets own (Some t) h = record {
+  others = all-apart targets own t.domains h.others;
+  hosts = h.hosts;
+  further = h.further;
+  leads = leads-apart targets own t.domains t.shape g.leads;
+  lead = lead-apart targets own t.domains t.domains g.reached;
+} where
+  g : IsGood targets t
+  g = together-law.good targets t h
 
 found-apart : (targets : Targets) (own : List Domain) (n : List ℕ) (f : Found) → IsCarriedName targets [] n f → IsCarriedName targets own n f
 found-apart targets own n (Here m) h = record { named = λ c. let g = h.named c in (type-apart targets own m.type g.0, λ s. g.1 refl); plain = h.plain }
@@ -98,9 +106,10 @@ parameters-good : (targets : Targets) (ds : List (List ℕ × Meaning)) → AllP
 parameters-good targets [] h = tt
 parameters-good targets (d ∷ ds) h = (h.0.good, parameters-good targets ds h.1)
 
-pub block-start : (targets : Targets) (own : List Domain) (out : Outside) (l : Local) → CarriedAround targets [] out → AllParameters targets l.known → IsCarriedStart targets own out l
-block-start targets own out l h p = record {
-  place = record { known = entry-carried targets own l.known p; outside = around-apart targets own out h };
+pub block-start : (targets : Targets) (own : List Domain) (out : Outside) (l : Local) → CarriedAround targets [] out → AllParameters targets l.known → ConfinedPlace targets own out l →
+    IsCarriedStart targets own out l
+block-start targets own out l h p c = record {
+  place = record { known = entry-carried targets own l.known p; outside = around-apart targets own out h; confined = c };
   types = parameter-types targets own l.known p;
   good = parameters-good targets l.known p;
 }

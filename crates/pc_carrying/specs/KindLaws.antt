@@ -1,7 +1,6 @@
 -- The kinds of nodes in the declaration parts of a well-formed block.
-use Rattle.std.specs.Prelude.{ℕ, ◌≡◌, Bool, true, false, not, ◌&&◌, ◌||◌, if◌then◌else◌, List}
-use Rattle.std.proofs.Common.{refl, ap, sym, subst, ◌∙◌, true≢false}
-use Rattle.std.proofs.lemmas.Bool.{and_parts}
+use Rattle.std.specs.Prelude.{◌≡◌, Bool, true, false, not, ◌&&◌, ◌||◌}
+use Rattle.std.proofs.Common.{refl, ap, sym, true≢false}
 use Rattle.pc_syntax.specs.declared.kind.Kind.{Kind}
 use Rattle.pc_syntax.specs.declared.kind.Kind.TheVariants as kind
 use Rattle.pc_syntax.specs.declared.class.Class.{Class}
@@ -10,8 +9,7 @@ use Rattle.pc_syntax.specs.Classes.{has}
 use Rattle.pc_syntax.specs.Plain.{Forest, Nil, Cons, Plain}
 use Rattle.pc_syntax.specs.Slots.{places_of}
 use Rattle.pc_syntax.specs.WellFormed.{WellFormed, IsWellFormed}
-use Rattle.pc_scope.specs.Headings.{is_routine_kind}
-use Rattle.pc_rules.specs.OwnBlock.{own, bare_heading}
+use Rattle.pc_rules.specs.OwnBlock.{own}
 use Rattle.pc_needs.proofs.BodyKinds.{either-way, Passes, all_classes, row-passes, node-takes}
 use Rattle.pc_carrying.specs.Carrying.{is_denoting, AllDenoting, is_defining, AllDefining}
 use Rattle.pc_carrying.specs.Parts.{is_variable, AllVariables, is_routine, AllRoutines, is_naming, AllNaming, is_group, AllGroups, KindLaw}

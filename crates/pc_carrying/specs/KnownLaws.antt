@@ -1,20 +1,20 @@
 -- What names mean behind declarations.
-use Rattle.std.proofs.Common.{◌≡◌, ℕ, Bool, true, false, ◌||◌, if◌then◌else◌, List, [], ◌∷◌, ◌++◌, Option, Some, None, option_map, refl, sym, ◌∙◌, ap, subst}
+use Rattle.std.proofs.Common.{◌≡◌, ℕ, Bool, true, false, if◌then◌else◌, List, [], ◌∷◌, ◌++◌, Option, Some, None, option_map, refl, sym, ◌∙◌, ap, subst}
 use Rattle.std.proofs.lemmas.Bool.{true≢false}
 use Rattle.std.proofs.lemmas.Slice.Eq.{bytes_eq-Decides}
 use Rattle.std.specs.Str.{bytes_eq}
 use Rattle.pc_syntax.specs.Words.{is_among}
-use Rattle.pc_types.specs.Shapes.{Owner, Domain, Typed}
+use Rattle.pc_types.specs.Shapes.{Domain, Typed}
 use Rattle.pc_types.specs.Domains.{stands_in}
 use Rattle.pc_rules.specs.ClosedTypes.{own_domains}
-use Rattle.pc_rules.specs.Meanings.{Class, Meaning, Found, Here, Local, Outside, entry_of, is_routine_class, with_signature, known_or, later_or, field_or, find, define, define_all}
+use Rattle.pc_rules.specs.Meanings.{Class, Meaning, Found, Local, Outside, entry_of, is_routine_class, with_signature, known_or, later_or, field_or, find, define, define_all}
 use Rattle.pc_rules.specs.NameClasses.{is_type_class}
 use Rattle.pc_pointers.specs.Good.{Targets}
 use Rattle.pc_closed.specs.PlaceLaws.{stands-front, stands-back, stands-first}
 use Rattle.pc_closed.specs.Reached.{Covers}
-use Rattle.pc_closed.specs.Carried.{IsCarriedType, IsCarriedFound, AllTypesCarried}
-use Rattle.pc_carrying.specs.Carrying.{IsPlainValue, IsCarriedMeaning, IsCarriedName, KnownCarried, CarriedAround, CarriedPlace, IsPlain, AllPlain}
-use Rattle.pc_carrying.specs.Parts.{IsSound, AllSound, AllBeside}
+use Rattle.pc_closed.specs.Carried.{IsCarriedType, AllTypesCarried}
+use Rattle.pc_carrying.specs.Carrying.{IsPlainValue, IsCarriedMeaning, IsCarriedName, KnownCarried, CarriedPlace, AllPlain}
+use Rattle.pc_carrying.specs.Parts.{AllSound, AllBeside}
 
 -- ---- what a name means at a place
 

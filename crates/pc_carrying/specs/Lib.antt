@@ -1,6 +1,8 @@
 pub mod Carrying
 pub mod Parts
 pub mod KnownLaws
+pub mod LaterLaws
+pub mod ConfinedLaws
 pub mod NodeLaws
 pub mod RuleLaws
 pub mod DenoterLaws

@@ -1,18 +1,14 @@
 -- Nodes at and below denoters: parts of what the rules make of them.
-use Rattle.std.proofs.Common.{◌≡◌, ℕ, zero, suc, Bool, true, false, not, ◌&&◌, ◌||◌, if◌then◌else◌, List, [], ◌∷◌, ◌++◌, Option, Some, None, codes, option_map, pos, refl, sym, ◌∙◌, ap}
-use Rattle.std.proofs.lemmas.Bool.{true≢false, and_parts}
+use Rattle.std.proofs.Common.{◌≡◌, ℕ, zero, suc, Bool, true, false, not, ◌||◌, if◌then◌else◌, List, [], ◌∷◌, ◌++◌, Option, Some, None, codes, option_map, pos, refl, sym, ◌∙◌, ap}
+use Rattle.std.proofs.lemmas.Bool.{true≢false}
 use Rattle.std.specs.Prelude.{get_or}
 use Rattle.std.specs.Str.{bytes_eq}
 use Rattle.std.specs.Option.{option_and_then}
-use Rattle.pc_syntax.specs.declared.kind.Kind.{Kind}
-use Rattle.pc_syntax.specs.Sorts.{is_hole}
-use Rattle.pc_syntax.specs.Words.{lowered}
 use Rattle.pc_forms.specs.declared.operator.Sign.{Sign}
-use Rattle.pc_types.specs.Shapes.{Owner, Definition, Shape, IntegerType, BooleanType, CharType, NilType, NoMembers, MembersType, TextType, EnumeratedType, SubrangeType, ArrayType, RecordType, SetType, PointerType, Fields, LastField, FieldOf, Domain, Typed}
+use Rattle.pc_types.specs.Shapes.{Owner, Definition, Shape, IntegerType, BooleanType, Domain, Typed}
 use Rattle.pc_types.specs.TypeClasses.{maxint}
-use Rattle.pc_rules.specs.Attributes.{Entry, Attributes, Marked, Done, Mark, Node, plain, nodes, missing, is_empty, judged, first_below, second_below, kids_below}
+use Rattle.pc_rules.specs.Attributes.{Entry, Marked, Done, Mark, Node, plain, nodes, missing, is_empty, judged}
 use Rattle.pc_rules.specs.Constants.{characters, text_value, typed_value, value_of_found, constant_node, signed}
-use Rattle.pc_rules.specs.Decorated.{with_kind}
 use Rattle.pc_rules.specs.Denoters.{typed, some_typed, elements, denoter_node, type_of_found, bounded, subrange_of}
 use Rattle.pc_rules.specs.HandedOn.{kid_entries, any_hole, all_defines, handed_on}
 use Rattle.pc_rules.specs.Declarations.{declarations_rule}
@@ -21,10 +17,10 @@ use Rattle.pc_rules.specs.NameClasses.{is_type_class}
 use Rattle.pc_rules.specs.RequiredMeanings.{required_constant}
 use Rattle.pc_rules.specs.StructuredTypes.{field_denoter}
 use Rattle.pc_pointers.specs.Good.{Targets}
-use Rattle.pc_closed.specs.Settled.{leads_nowhere, lead_nowhere, HostsLeadNowhere, FieldHostsLeadNowhere}
-use Rattle.pc_closed.specs.Carried.{IsCarried, IsCarriedType, AllCarried}
+use Rattle.pc_closed.specs.Settled.{leads_nowhere}
+use Rattle.pc_closed.specs.Carried.{IsCarriedType, AllCarried}
 use Rattle.pc_closed.specs.CarriedLaws.{carried-law}
-use Rattle.pc_carrying.specs.Carrying.{IsPlainValue, IsCarriedMeaning, IsCarriedName, IsPlain, AllPlain, IsCarriedAt, CarriedMarks, IsCarriedNode, AllNodesCarried}
+use Rattle.pc_carrying.specs.Carrying.{IsPlainValue, IsCarriedName, AllPlain, IsCarriedAt, CarriedMarks, IsCarriedNode, AllNodesCarried}
 
 -- ---- kids
 
@@ -106,29 +102,9 @@ handed-carried targets own kids = record {
 
 -- ---- constants
 
-mutual
-  pub nowhere-hosts : (t : Shape) → leads_nowhere t ≡ true → HostsLeadNowhere t
-  nowhere-hosts (SubrangeType d t a b) e = e
-  nowhere-hosts (ArrayType d p i t) e = nowhere-hosts t e
-  nowhere-hosts (RecordType d p fs) e = nowhere-field-hosts fs e
-  nowhere-hosts (PointerType d o n) e = tt
-  nowhere-hosts IntegerType e = tt
-  nowhere-hosts BooleanType e = tt
-  nowhere-hosts CharType e = tt
-  nowhere-hosts NilType e = tt
-  nowhere-hosts NoMembers e = tt
-  nowhere-hosts (MembersType b) e = tt
-  nowhere-hosts (TextType n) e = tt
-  nowhere-hosts (EnumeratedType d ns) e = tt
-  nowhere-hosts (SetType d p b) e = tt
-
-  nowhere-field-hosts : (fs : Fields) → lead_nowhere fs ≡ true → FieldHostsLeadNowhere fs
-  nowhere-field-hosts LastField e = tt
-  nowhere-field-hosts (FieldOf n t fs) e = let p = and_parts (leads_nowhere t) (lead_nowhere fs) e in (nowhere-hosts t p.0, nowhere-field-hosts fs p.1)
-
 value-carried : (targets : Targets) (own : List Domain) (v : Option Value) → IsPlainValue v → IsCarriedType targets own (option_map typed_value v)
 value-carried targets own None h = tt
-value-carried targets own (Some v) h = record { others = tt; hosts = nowhere-hosts v.type h; further = tt }
+value-carried targets own (Some v) h = carried-law.alone targets own v.type h
 
 either-value : (b : Bool) (v : Option Value) → IsPlainValue v → IsPlainValue (if b then None else v)
 either-value true v h = tt
@@ -198,7 +174,7 @@ type-carried targets own n (Component t p) h = tt
 type-carried targets own n Missing h = tt
 
 bounded-carried : (targets : Targets) (own : List Domain) (d : Definition) (t : Shape) (a b : Constant) → leads_nowhere t ≡ true → IsCarriedType targets own (option_map typed (bounded d t a b))
-bounded-carried targets own d t (Ordinal a) (Ordinal b) e = record { others = tt; hosts = e; further = tt }
+bounded-carried targets own d t (Ordinal a) (Ordinal b) e = record { others = tt; hosts = e; further = tt; leads = tt; lead = tt }
 bounded-carried targets own d t (Ordinal a) (Chars b) e = tt
 bounded-carried targets own d t (Chars a) (Ordinal b) e = tt
 bounded-carried targets own d t (Chars a) (Chars b) e = tt

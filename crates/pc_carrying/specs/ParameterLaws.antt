@@ -7,15 +7,15 @@ use Rattle.pc_syntax.specs.declared.kind.Kind.TheVariants as kind
 use Rattle.pc_syntax.specs.Plain.{Forest, Nil, Cons, Plain}
 use Rattle.pc_syntax.specs.Words.{lowered}
 use Rattle.pc_types.specs.Shapes.{Typed}
-use Rattle.pc_rules.specs.Attributes.{Attributes, Marked, Done, Mark, Node, nodes, missing, kids_below}
+use Rattle.pc_rules.specs.Attributes.{Attributes, Marked, Node, nodes, missing, kids_below}
 use Rattle.pc_rules.specs.DeclaringNames.{names_in, all_as}
 use Rattle.pc_rules.specs.Decorated.{Seen, unseen, seen, rule, decorate}
 use Rattle.pc_rules.specs.Denoters.{type_of_found}
 use Rattle.pc_rules.specs.HandedOn.{all_defines}
-use Rattle.pc_rules.specs.Meanings.{Class, ValueName, ReferenceName, Meaning, Found, Local, Outside, declared_as, find, define_all}
+use Rattle.pc_rules.specs.Meanings.{Class, ValueName, ReferenceName, Meaning, Found, Local, Outside, declared_as, find}
 use Rattle.pc_rules.specs.NameClasses.{is_type_class}
 use Rattle.pc_rules.specs.Places.{inner, beside, pass, pass_all}
-use Rattle.pc_environment.specs.Decorating.{attributes_at, below_at}
+use Rattle.pc_environment.specs.Decorating.{attributes_at}
 use Rattle.pc_pointers.specs.Good.{Targets, IsGoodFound}
 use Rattle.pc_carrying.specs.Carrying.{IsCarriedName}
 use Rattle.pc_carrying.specs.Parts.{IsParameter, AllParameters, NamesGood, is_naming, AllNaming, is_group, AllGroups, InsideLaw}

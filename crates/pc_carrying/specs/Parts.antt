@@ -7,7 +7,7 @@ use Rattle.pc_syntax.specs.WellFormed.{IsWellFormed}
 use Rattle.pc_types.specs.Shapes.{Owner, Keyed, Domain}
 use Rattle.pc_rules.specs.OwnBlock.{own}
 use Rattle.pc_rules.specs.ClosedTypes.{own_domains, close_types}
-use Rattle.pc_rules.specs.Meanings.{Class, Meaning, Found, Local, Outside, declared_as, find, define_all}
+use Rattle.pc_rules.specs.Meanings.{Class, Meaning, Found, Later, Local, Outside, declared_as, find, define_all}
 use Rattle.pc_rules.specs.NameClasses.{is_type_class}
 use Rattle.pc_rules.specs.Denoters.{type_of_found}
 use Rattle.pc_rules.specs.Places.{inner}
@@ -19,7 +19,7 @@ use Rattle.pc_pointers.specs.Good.{Targets, IsGoodType, IsGoodFound, AllOpenedGo
 use Rattle.pc_closed.specs.Reached.{Covers}
 use Rattle.pc_closed.specs.Settled.{Tells, FitsBlock, IsGoodBeside, AllGoodBeside}
 use Rattle.pc_closed.specs.Carried.{IsCarriedType, AllTypesCarried}
-use Rattle.pc_carrying.specs.Carrying.{IsPlainValue, IsCarriedName, CarriedAround, CarriedPlace, IsCarriedAt, CarriedMarks, is_denoting, AllDenoting, is_defining, AllDefining}
+use Rattle.pc_carrying.specs.Carrying.{IsPlainValue, IsCarriedName, CarriedAround, ConfinedPlace, CarriedPlace, IsCarriedAt, CarriedMarks, is_denoting, AllDenoting, is_defining, AllDefining}
 
 -- ---- what is declared
 
@@ -137,9 +137,14 @@ pub record PartLaw : Type 0 where
       IsCarriedStart targets (own_domains (declared_at out l t).known) out l → IsCarriedStart targets (own_domains (declared_at out l t).known) out (declared_at out l t)
   -- so targets fit the block that say what its types are behind the type part
   pub fits : (targets : Targets) (l : Local) → AllTypesCarried targets (own_domains l.known) l.known → Tells targets (own_domains (close_types l).known) → FitsBlock targets l
-  -- and behind the type part what names mean is good
+  -- and behind the type part what names mean is good, where the targets say nothing of what is declared later there
   pub behind : (targets : Targets) (out : Outside) (l : Local) (t : Plain) → t.kind ≡ kind.Types → AllDefining t.kids → Tells targets (own_domains (close_types (declared_at out l t)).known) →
-      IsSettledAround targets out l → IsCarriedStart targets (own_domains (declared_at out l t).known) out l → IsGoodBehind targets out (place_behind out l t)
+      IsSettledAround targets out l → IsCarriedStart targets (own_domains (declared_at out l t).known) out l →
+      ((n : List ℕ) (c : Class) → find out (place_behind out l t) n ≡ Later c → targets l.owner n ≡ None) → IsGoodBehind targets out (place_behind out l t)
+  -- so it is where they say nothing of what is declared later at the start, but for the block's own types, since these are declared behind their part
+  pub later : (targets : Targets) (out : Outside) (l : Local) (constants types : Plain) → types.kind ≡ kind.Types →
+      ConfinedPlace targets (own_domains (declared_at out (place_behind out l constants) types).known) out l →
+      (n : List ℕ) (c : Class) → find out (place_behind out (place_behind out l constants) types) n ≡ Later c → targets l.owner n ≡ None
   -- it stays so behind the variables and the routines
   pub variables : (targets : Targets) (out : Outside) (l : Local) (t : Plain) → t.kind ≡ kind.Vars → AllVariables t.kids → GoodHeadings targets out → IsGoodBehind targets out l →
       IsSettledPart targets (attributes_at out l t).defines × IsGoodBehind targets out (place_behind out l t)
@@ -156,11 +161,13 @@ pub record RoutineLaw : Type 0 where
 abbrev pub types_of : Outside → Local → Plain → Plain → Local
 types_of out l constants types = declared_at out (place_behind out l constants) types
 
--- from the start of a block to its statement part, for targets that say what its types are behind the type part
+-- from the start of a block to its statement part, for targets that say what its types are behind the type part, and nothing of what is
+-- declared later there
 abbrev pub BlockLaw : Type 0
 BlockLaw = (targets : Targets) (out : Outside) (l : Local) (constants types variables routines : Plain) → AreParts constants types variables routines →
     Tells targets (own_domains (close_types (types_of out l constants types)).known) → IsSettledAround targets out l →
     IsCarriedStart targets (own_domains (types_of out l constants types).known) out l →
+    ((n : List ℕ) (c : Class) → find out (place_behind out (place_behind out l constants) types) n ≡ Later c → targets l.owner n ≡ None) →
     FitsBlock targets (types_of out l constants types) × IsGoodBehind targets out (place_after out l (constants ∷ types ∷ variables ∷ routines ∷ []))
 
 -- ---- blocks inside a block
@@ -219,8 +226,9 @@ pub record InsideLaw : Type 0 where
   pub parameters : (targets : Targets) (out : Outside) (l : Local) (t : Plain) → t.kind ≡ kind.Params → AllGroups t.kids → NamesGood targets out l → AllParameters targets (attributes_at out l t).defines
   -- the first of each name
   pub firsts : (targets : Targets) (before : List (List ℕ)) (ds : List (List ℕ × Meaning)) → AllParameters targets ds → AllParameters targets (firsts before ds)
-  -- the place where the block begins, whatever its own types are
-  pub start : (targets : Targets) (own : List Domain) (out : Outside) (l : Local) → CarriedAround targets [] out → AllParameters targets l.known → IsCarriedStart targets own out l
+  -- the place where the block begins, whatever its own types are; of what is declared later there the targets say nothing, but for these
+  pub start : (targets : Targets) (own : List Domain) (out : Outside) (l : Local) → CarriedAround targets [] out → AllParameters targets l.known → ConfinedPlace targets own out l →
+      IsCarriedStart targets own out l
 
 -- the kinds of nodes in well-formed trees are those that the laws ask for; so are those of the routines of an own block
 pub record KindLaw : Type 0 where

@@ -1,5 +1,5 @@
 -- The rule at each kind of node at or below a denoter makes what is carried of what is carried.
-use Rattle.std.proofs.Common.{◌≡◌, ℕ, suc, Bool, true, false, not, ◌||◌, if◌then◌else◌, List, [], ◌∷◌, ◌++◌, Option, Some, None, codes, option_map, pos, refl, sym, ◌∙◌, ap}
+use Rattle.std.proofs.Common.{◌≡◌, ℕ, Bool, true, false, not, ◌||◌, if◌then◌else◌, List, [], ◌∷◌, ◌++◌, Option, Some, None, codes, option_map, pos, refl}
 use Rattle.std.proofs.lemmas.Bool.{true≢false, false≢true}
 use Rattle.std.specs.Prelude.{get_or}
 use Rattle.std.specs.Option.{option_and_then}
@@ -9,22 +9,22 @@ use Rattle.pc_syntax.specs.Sorts.{is_hole}
 use Rattle.pc_syntax.specs.Words.{lowered, value_after}
 use Rattle.pc_forms.specs.Form.{form_from}
 use Rattle.pc_forms.specs.Operators.{sign_of}
-use Rattle.pc_types.specs.Shapes.{Domain, Typed, Shape, IntegerType, EnumeratedType, RecordType, SetType, LastField}
+use Rattle.pc_types.specs.Shapes.{Domain, Typed, IntegerType, EnumeratedType, RecordType, SetType, LastField}
 use Rattle.pc_scope.specs.Required.{is_required_type}
-use Rattle.pc_rules.specs.Attributes.{Entry, Attributes, Marked, Node, nodes, missing, is_empty, judged, at_kid, kids_below}
+use Rattle.pc_rules.specs.Attributes.{Attributes, Marked, Node, nodes, missing, is_empty, at_kid, kids_below}
 use Rattle.pc_rules.specs.Constants.{number_entries, value_of_found, signed}
 use Rattle.pc_rules.specs.DeclaringNames.{names_in, repeats}
 use Rattle.pc_rules.specs.Decorated.{Seen, rule_of, rule, with_kind}
-use Rattle.pc_rules.specs.Denoters.{typed, some_typed, defined_here, type_of_found, enumerated_rule, subrange_rule, pointer_rule, pointer_to, is_later_type, domain_entries}
-use Rattle.pc_rules.specs.HandedOn.{any_hole}
-use Rattle.pc_rules.specs.Meanings.{Ordinal, Value, Meaning, Found, Here, Later, Component, Required, Missing, Local}
+use Rattle.pc_rules.specs.Denoters.{typed, some_typed, defined_here, enumerated_rule, pointer_rule, pointer_to, is_later_type, domain_entries}
+use Rattle.pc_rules.specs.Meanings.{Ordinal, Meaning, Found, Here, Later, Component, Required, Missing, Local}
 use Rattle.pc_rules.specs.NameClasses.{is_type_class}
-use Rattle.pc_rules.specs.StructuredTypes.{Row, arrays, row_of, array_rule, record_rule, set_rule}
+use Rattle.pc_rules.specs.StructuredTypes.{arrays, array_rule, record_rule, set_rule}
 use Rattle.pc_rules.specs.UsedNames.{missed, not_a, is_used_as}
 use Rattle.pc_pointers.specs.Good.{Targets}
-use Rattle.pc_closed.specs.Carried.{IsCarried, IsCarriedType}
+use Rattle.pc_closed.specs.Carried.{IsCarriedType}
 use Rattle.pc_closed.specs.CarriedLaws.{carried-law}
-use Rattle.pc_carrying.specs.Carrying.{IsPlainValue, IsCarriedName, IsCarriedAt, CarriedMarks, IsCarriedNode, AllNodesCarried, is_denoting}
+use Rattle.pc_carrying.specs.Carrying.{IsCarriedName, IsConfinedName, IsCarriedAt, CarriedMarks, IsCarriedNode, AllNodesCarried, is_denoting}
+use Rattle.pc_carrying.specs.ConfinedLaws.{AllConfined, kid-confined}
 use Rattle.pc_carrying.specs.NodeLaws.{nodes-carried, kid-carried, fields-carried, denoter-carried, declaring-carried, handed-carried, constant-carried, string-carried, found-plain, signed-plain, elements-plain, judged-carried, judged-nowhere, type-carried, subrange-carried}
 
 -- ---- forms of denoters
@@ -36,7 +36,7 @@ enumerated-carried targets own l names =
     record {
       meant = tt;
       unmeant = λ e. refl;
-      type = judged-carried targets own names.hole es (some_typed t) (λ a b. record { others = tt; hosts = tt; further = tt });
+      type = judged-carried targets own names.hole es (some_typed t) (λ a b. record { others = tt; hosts = tt; further = tt; leads = tt; lead = tt });
       fixed = tt;
       declared = elements-plain l.owner _ 0 (names_in (kids_below names)) (judged-nowhere (names.hole || not (is_empty es)) t refl);
     }
@@ -58,7 +58,7 @@ record-carried targets own l fields g =
 
 set-type : (targets : Targets) (own : List Domain) (l : Local) (t : Option Typed) → IsCarriedType targets own (option_map (λ (t : Typed). typed (SetType (defined_here l) l.packed t.shape)) t)
 set-type targets own l None = tt
-set-type targets own l (Some t) = record { others = tt; hosts = tt; further = tt }
+set-type targets own l (Some t) = record { others = tt; hosts = tt; further = tt; leads = tt; lead = tt }
 
 set-carried : (targets : Targets) (own : List Domain) (l : Local) (base : Node) → IsCarriedNode targets own base → IsCarriedAt targets own (set_rule l base)
 set-carried targets own l base g = denoter-carried targets own (base ∷ []) _ _ (g, tt) (λ a b. set-type targets own l base.as_value.type)
@@ -80,23 +80,24 @@ type-pointed : (targets : Targets) (own : List Domain) (l : Local) (name : Node)
     IsCarriedType targets own (pointer_to l (lowered name.word) (Here m))
 type-pointed targets own l name m h u e = by (is_type_class m.class) refl where
   by : (b : Bool) → is_type_class m.class ≡ b → IsCarriedType targets own (pointer_to l (lowered name.word) (Here m))
-  by true c = carried-law.pointer targets own l (lowered name.word) (Here m) (h.named c)
+  by true c = carried-law.pointer targets own l (lowered name.word) (Here m) (h.named c) (λ k q. absurd (cc q))
   by false c = absurd (no-type name m u c e)
 
 pointed : (targets : Targets) (own : List Domain) (l : Local) (name : Node) (f : Found) → IsCarriedName targets own (lowered name.word) f → (is_hole name.kind ≡ true → f ≡ Missing) →
     is_empty (at_kid 1 (if is_later_type f then [] else if is_hole name.kind then []
     else missed name.word f ++ (if is_used_as is_type_class is_required_type f then [] else not_a (codes "type") name.word))) ≡ true →
-    IsCarriedType targets own (pointer_to l (lowered name.word) f)
-pointed targets own l name (Here m) h u e = type-pointed targets own l name m h u e
-pointed targets own l name (Required r) h u e = carried-law.pointer targets own l (lowered name.word) (Required r) h
-pointed targets own l name (Later c) h u e = record { others = tt; hosts = tt; further = tt }
-pointed targets own l name (Component t p) h u e = tt
-pointed targets own l name Missing h u e = tt
+    IsConfinedName targets own l.owner (lowered name.word) f → IsCarriedType targets own (pointer_to l (lowered name.word) f)
+pointed targets own l name (Here m) h u e k = type-pointed targets own l name m h u e
+pointed targets own l name (Required r) h u e k = carried-law.pointer targets own l (lowered name.word) (Required r) h k
+pointed targets own l name (Later c) h u e k = carried-law.pointer targets own l (lowered name.word) (Later c) tt k
+pointed targets own l name (Component t p) h u e k = tt
+pointed targets own l name Missing h u e k = tt
 
-pointer-carried : (targets : Targets) (own : List Domain) (l : Local) (name : Node) → IsCarriedNode targets own name → IsCarriedAt targets own (pointer_rule l name)
-pointer-carried targets own l name g =
+pointer-carried : (targets : Targets) (own : List Domain) (l : Local) (name : Node) → IsCarriedNode targets own name → IsConfinedName targets own l.owner (lowered name.word) name.found →
+    IsCarriedAt targets own (pointer_rule l name)
+pointer-carried targets own l name g k =
     denoter-carried targets own (name ∷ []) (at_kid 1 (domain_entries name)) (pointer_to l (lowered name.word) name.found) (g, tt)
-    (λ a b. pointed targets own l name name.found g.here.meant g.here.unmeant b)
+    (λ a b. pointed targets own l name name.found g.here.meant g.here.unmeant b k)
 
 -- ---- the rule
 
@@ -106,53 +107,53 @@ with_kind-carried targets own k w a q g = record { meant = rw q tt; unmeant = λ
 
 -- by the form, which has kids that are carried
 rule_of-carried : (targets : Targets) (own : List Domain) (l : Local) (k : Kind) (w : List ℕ) (s : Seen) (ns : List Node) →
-    is_denoting k ≡ true → IsCarriedName targets own (lowered w) s.found → AllNodesCarried targets own ns → IsCarriedAt targets own (with_kind k w (rule_of l s (form_from k w ns missing)))
-rule_of-carried targets own l kind.Cnumber w s ns e f g =
+    is_denoting k ≡ true → IsCarriedName targets own (lowered w) s.found → AllNodesCarried targets own ns → AllConfined targets own l.owner ns → IsCarriedAt targets own (with_kind k w (rule_of l s (form_from k w ns missing)))
+rule_of-carried targets own l kind.Cnumber w s ns e f g c =
     with_kind-carried targets own kind.Cnumber w _ refl (constant-carried targets own false (number_entries w) (Some (record { type = IntegerType; constant = Ordinal (pos (value_after 0 w)) })) refl)
-rule_of-carried targets own l kind.Cstring w s ns e f g = with_kind-carried targets own kind.Cstring w _ refl (string-carried targets own w)
-rule_of-carried targets own l kind.Cname w s ns e f g =
+rule_of-carried targets own l kind.Cstring w s ns e f g c = with_kind-carried targets own kind.Cstring w _ refl (string-carried targets own w)
+rule_of-carried targets own l kind.Cname w s ns e f g c =
     let name = get_or ns 0 missing in
     with_kind-carried targets own kind.Cname w _ refl
     (constant-carried targets own (is_hole name.kind) _ (value_of_found name.found) (found-plain targets own (lowered name.word) name.found (kid-carried targets own ns 0 g).here.meant))
-rule_of-carried targets own l kind.Csign w s ns e f g =
-    let c = get_or ns 0 missing in
+rule_of-carried targets own l kind.Csign w s ns e f g c =
+    let x = get_or ns 0 missing in
     with_kind-carried targets own kind.Csign w _ refl
-    (constant-carried targets own c.hole _ (option_map (signed (sign_of w)) c.constant) (signed-plain (sign_of w) c.constant (kid-carried targets own ns 0 g).here.fixed))
-rule_of-carried targets own l kind.Tname w s ns e f g =
+    (constant-carried targets own x.hole _ (option_map (signed (sign_of w)) x.constant) (signed-plain (sign_of w) x.constant (kid-carried targets own ns 0 g).here.fixed))
+rule_of-carried targets own l kind.Tname w s ns e f g c =
     let name = get_or ns 0 missing in
     let h = kid-carried targets own ns 0 g in
     with_kind-carried targets own kind.Tname w _ refl
     (denoter-carried targets own (name ∷ []) _ _ (h, tt) (λ a b. type-carried targets own (lowered name.word) name.found h.here.meant))
-rule_of-carried targets own l kind.Enum w s ns e f g = with_kind-carried targets own kind.Enum w _ refl (enumerated-carried targets own l (get_or ns 0 missing))
-rule_of-carried targets own l kind.Subrange w s ns e f g =
+rule_of-carried targets own l kind.Enum w s ns e f g c = with_kind-carried targets own kind.Enum w _ refl (enumerated-carried targets own l (get_or ns 0 missing))
+rule_of-carried targets own l kind.Subrange w s ns e f g c =
     let low = get_or ns 0 missing in
     let high = get_or ns 1 missing in
     let h = kid-carried targets own ns 0 g in
     with_kind-carried targets own kind.Subrange w _ refl
     (denoter-carried targets own (low ∷ high ∷ []) _ _ (h, (kid-carried targets own ns 1 g, tt)) (λ a b. subrange-carried targets own (defined_here l) low.constant high.constant h.here.fixed))
-rule_of-carried targets own l kind.Array w s ns e f g =
+rule_of-carried targets own l kind.Array w s ns e f g c =
     with_kind-carried targets own kind.Array w _ refl (array-carried targets own l (get_or ns 0 missing) (get_or ns 1 missing) (kid-carried targets own ns 0 g) (kid-carried targets own ns 1 g))
-rule_of-carried targets own l kind.Record w s ns e f g = with_kind-carried targets own kind.Record w _ refl (record-carried targets own l (get_or ns 0 missing) (kid-carried targets own ns 0 g))
-rule_of-carried targets own l kind.Record0 w s ns e f g =
+rule_of-carried targets own l kind.Record w s ns e f g c = with_kind-carried targets own kind.Record w _ refl (record-carried targets own l (get_or ns 0 missing) (kid-carried targets own ns 0 g))
+rule_of-carried targets own l kind.Record0 w s ns e f g c =
     with_kind-carried targets own kind.Record0 w _ refl
-    (denoter-carried targets own [] [] (some_typed (RecordType (defined_here l) l.packed LastField)) tt (λ a b. record { others = tt; hosts = tt; further = tt }))
-rule_of-carried targets own l kind.Setof w s ns e f g = with_kind-carried targets own kind.Setof w _ refl (set-carried targets own l (get_or ns 0 missing) (kid-carried targets own ns 0 g))
-rule_of-carried targets own l kind.Packed w s ns e f g =
+    (denoter-carried targets own [] [] (some_typed (RecordType (defined_here l) l.packed LastField)) tt (λ a b. record { others = tt; hosts = tt; further = tt; leads = tt; lead = tt }))
+rule_of-carried targets own l kind.Setof w s ns e f g c = with_kind-carried targets own kind.Setof w _ refl (set-carried targets own l (get_or ns 0 missing) (kid-carried targets own ns 0 g))
+rule_of-carried targets own l kind.Packed w s ns e f g c =
     let h = kid-carried targets own ns 0 g in
     with_kind-carried targets own kind.Packed w _ refl (denoter-carried targets own (get_or ns 0 missing ∷ []) _ _ (h, tt) (λ a b. h.here.type))
-rule_of-carried targets own l kind.Pointer w s ns e f g = with_kind-carried targets own kind.Pointer w _ refl (pointer-carried targets own l (get_or ns 0 missing) (kid-carried targets own ns 0 g))
-rule_of-carried targets own l kind.Name w s ns e f g = record { meant = f; unmeant = λ q. absurd (false≢true q); type = tt; fixed = tt; declared = tt }
-rule_of-carried targets own l kind.Names w s ns e f g = with_kind-carried targets own kind.Names w _ refl (handed-carried targets own ns)
-rule_of-carried targets own l kind.Indexes w s ns e f g = with_kind-carried targets own kind.Indexes w _ refl (declaring-carried targets own ns g)
-rule_of-carried targets own l kind.Fields w s ns e f g = with_kind-carried targets own kind.Fields w _ refl (declaring-carried targets own ns g)
-rule_of-carried targets own l kind.Field w s ns e f g =
+rule_of-carried targets own l kind.Pointer w s ns e f g c = with_kind-carried targets own kind.Pointer w _ refl (pointer-carried targets own l (get_or ns 0 missing) (kid-carried targets own ns 0 g) (kid-confined targets own l.owner ns 0 c))
+rule_of-carried targets own l kind.Name w s ns e f g c = record { meant = f; unmeant = λ q. absurd (false≢true q); type = tt; fixed = tt; declared = tt }
+rule_of-carried targets own l kind.Names w s ns e f g c = with_kind-carried targets own kind.Names w _ refl (handed-carried targets own ns)
+rule_of-carried targets own l kind.Indexes w s ns e f g c = with_kind-carried targets own kind.Indexes w _ refl (declaring-carried targets own ns g)
+rule_of-carried targets own l kind.Fields w s ns e f g c = with_kind-carried targets own kind.Fields w _ refl (declaring-carried targets own ns g)
+rule_of-carried targets own l kind.Field w s ns e f g c =
     with_kind-carried targets own kind.Field w _ refl
     (declaring-carried targets own (get_or ns 0 missing ∷ get_or ns 1 missing ∷ []) (kid-carried targets own ns 0 g, (kid-carried targets own ns 1 g, tt)))
-rule_of-carried targets own l (kind.Hole x) w s ns e f g = record { meant = tt; unmeant = λ q. refl; type = tt; fixed = tt; declared = tt }
-rule_of-carried targets own l k w s ns e f g = absurd (false≢true e)
+rule_of-carried targets own l (kind.Hole x) w s ns e f g c = record { meant = tt; unmeant = λ q. refl; type = tt; fixed = tt; declared = tt }
+rule_of-carried targets own l k w s ns e f g c = absurd (false≢true e)
 
 -- above marks that are carried
 pub rule-carried : (targets : Targets) (own : List Domain) (l : Local) (k : Kind) (w : List ℕ) (s : Seen) (m : Marked) →
-    is_denoting k ≡ true → IsCarriedName targets own (lowered w) s.found → CarriedMarks targets own m → IsCarriedAt targets own (rule l k w s m)
+    is_denoting k ≡ true → IsCarriedName targets own (lowered w) s.found → CarriedMarks targets own m → AllConfined targets own l.owner (nodes m) → IsCarriedAt targets own (rule l k w s m)
 unfolding rule
-rule-carried targets own l k w s m e f g = rule_of-carried targets own l k w s (nodes m) e f (nodes-carried targets own m g)
+rule-carried targets own l k w s m e f g c = rule_of-carried targets own l k w s (nodes m) e f (nodes-carried targets own m g) c

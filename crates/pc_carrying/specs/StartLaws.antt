@@ -1,29 +1,30 @@
 -- From the start of a block over its constants and types to its statement part.
 use Rattle.std.proofs.Common.{◌≡◌, ℕ, Bool, true, false, if◌then◌else◌, List, [], ◌∷◌, ◌++◌, None, refl, sym, ◌∙◌, ap, subst}
-use Rattle.std.proofs.lemmas.Bool.{true≢false, false≢true}
+use Rattle.std.proofs.lemmas.Bool.{false≢true}
 use Rattle.pc_syntax.specs.declared.kind.Kind.{Kind}
 use Rattle.pc_syntax.specs.declared.kind.Kind.TheVariants as kind
 use Rattle.pc_syntax.specs.Plain.{Plain}
 use Rattle.pc_syntax.specs.Words.{is_among}
-use Rattle.pc_types.specs.Shapes.{Domain, Typed}
+use Rattle.pc_types.specs.Shapes.{Owner, Domain, Typed}
 use Rattle.pc_rules.specs.Attributes.{Attributes, Marked}
 use Rattle.pc_rules.specs.ClosedTypes.{own_domains, close_types}
 use Rattle.pc_rules.specs.Decorated.{Seen, seen, rule, decorate}
-use Rattle.pc_rules.specs.Meanings.{Meaning, Local, Outside, find, define, define_all}
-use Rattle.pc_rules.specs.NameClasses.{is_type_class}
+use Rattle.pc_rules.specs.Meanings.{Class, Meaning, Later, Local, Outside, find, define, define_all}
 use Rattle.pc_rules.specs.Places.{beside}
-use Rattle.pc_environment.specs.Decorating.{attributes_at, below_at, place_behind, place_after}
+use Rattle.pc_environment.specs.Decorating.{attributes_at, below_at, place_behind}
 use Rattle.pc_pointers.specs.Good.{Targets, IsGoodFound, AllOpenedGood}
 use Rattle.pc_closed.specs.Reached.{Covers}
-use Rattle.pc_closed.specs.Settled.{Tells, FitsBlock, IsGoodBeside, AllGoodBeside, IsGoodAround}
+use Rattle.pc_closed.specs.Settled.{Tells, IsGoodBeside, AllGoodBeside, IsGoodAround}
 use Rattle.pc_closed.specs.Carried.{AllTypesCarried}
 use Rattle.pc_closed.specs.BlockLaws.{closed-law}
-use Rattle.pc_carrying.specs.Carrying.{CarriedPlace, KnownCarried, AllDefining}
-use Rattle.pc_carrying.specs.Parts.{IsSound, AllSound, AreParts, declared_at, types_of, IsCarriedStart, IsSettledAround, IsGoodBehind, NodeLaw, PartLaw, BlockLaw}
+use Rattle.pc_carrying.specs.Carrying.{ConfinedPlace, KnownCarried, AllDefining}
+use Rattle.pc_carrying.specs.Parts.{IsSound, AllSound, declared_at, types_of, IsCarriedStart, IsSettledAround, IsGoodBehind, NodeLaw, PartLaw, BlockLaw}
 use Rattle.pc_carrying.specs.KnownLaws.{sound-types, all-cover}
-use Rattle.pc_carrying.specs.DenoterLaws.{same-place, node-carried}
+use Rattle.pc_carrying.specs.LaterLaws.{all-later, beside-later}
+use Rattle.pc_carrying.specs.ConfinedLaws.{confined-moved, moved-place}
+use Rattle.pc_carrying.specs.DenoterLaws.{node-carried}
 use Rattle.pc_carrying.specs.TypeLaws.{is_part, IsCarriedPart, part-carried, definition-carried}
-use Rattle.pc_carrying.specs.PartLaws.{fits-block, closed-place, behind-known}
+use Rattle.pc_carrying.specs.PartLaws.{fits-block, closed-known, behind-known, block-later}
 use Rattle.pc_carrying.specs.VariableLaws.{constant-good}
 use Rattle.pc_carrying.specs.BehindLaws.{fields-stay, opened, declaration-settled, variables-behind, routines-behind}
 
@@ -56,14 +57,14 @@ all-good targets own l (d ∷ ds) h g = all-good targets own (define l d.0 d.1) 
 part-start : (targets : Targets) (own : List Domain) (out : Outside) (l : Local) (ds : List (List ℕ × Meaning)) → IsCarriedPart targets own l ds → IsCarriedStart targets own out l →
     IsCarriedStart targets own out (define_all l ds)
 part-start targets own out l ds h g = record {
-  place = record { known = h.known; outside = g.place.outside };
+  place = moved-place targets own out l (define_all l ds) (all-later l ds) h.known g.place;
   types = sound-types targets own l ds h.sound g.types;
   good = all-good targets own l ds h.sound g.good;
 }
 
-same-start : (targets : Targets) (own : List Domain) (out : Outside) (l m : Local) → m.known ≡ l.known → IsCarriedStart targets own out l → IsCarriedStart targets own out m
-same-start targets own out l m e g = record {
-  place = same-place targets own out l m e g.place;
+same-start : (targets : Targets) (own : List Domain) (out : Outside) (l m : Local) → m.known ≡ l.known → ConfinedPlace targets own out m → IsCarriedStart targets own out l → IsCarriedStart targets own out m
+same-start targets own out l m e c g = record {
+  place = record { known = subst (KnownCarried targets own) (sym e) g.place.known; outside = g.place.outside; confined = c };
   types = subst (AllTypesCarried targets own) (sym e) g.types;
   good = subst (AllGoodBeside targets) (sym e) g.good;
 }
@@ -77,7 +78,8 @@ constants-start targets own out l t e a c g =
     let q = constants-known out l t e in
     let cover = subst (λ (ds : List (List ℕ × Meaning)). Covers own (own_domains ds)) q c in
     let h = part-carried targets own out l t (ap is_part e) a cover g.place in
-    same-start targets own out (declared_at out l t) (place_behind out l t) q (part-start targets own out l (attributes_at out l t).defines h g)
+    let confined = confined-moved targets own out l (place_behind out l t) (beside-later l t.kind (attributes_at out l t)) g.place.confined in
+    same-start targets own out (declared_at out l t) (place_behind out l t) q confined (part-start targets own out l (attributes_at out l t).defines h g)
 
 types-start : (targets : Targets) (out : Outside) (l : Local) (t : Plain) → t.kind ≡ kind.Types → AllDefining t.kids → IsCarriedStart targets (own_domains (declared_at out l t).known) out l →
     IsCarriedStart targets (own_domains (declared_at out l t).known) out (declared_at out l t)
@@ -114,15 +116,20 @@ around targets own out l ds s g = record {
 }
 
 types-behind : (targets : Targets) (out : Outside) (l : Local) (t : Plain) → t.kind ≡ kind.Types → AllDefining t.kids → Tells targets (own_domains (close_types (declared_at out l t)).known) →
-    IsSettledAround targets out l → IsCarriedStart targets (own_domains (declared_at out l t).known) out l → IsGoodBehind targets out (place_behind out l t)
-types-behind targets out l t e a tells s g =
+    IsSettledAround targets out l → IsCarriedStart targets (own_domains (declared_at out l t).known) out l →
+    ((n : List ℕ) (c : Class) → find out (place_behind out l t) n ≡ Later c → targets l.owner n ≡ None) → IsGoodBehind targets out (place_behind out l t)
+types-behind targets out l t e a tells s g k =
     let m = declared_at out l t in
     let own = own_domains m.known in
     let h = types-start targets out l t e a g in
     let f = fits-block targets m h.types tells in
     let good = closed-law.place targets out m f (around targets own out l (attributes_at out l t).defines s h) in
     record {
-      place = same-place targets [] out (close_types m) (place_behind out l t) (behind-known out l t e) (closed-place targets own [] out m f h.place.known s.carried);
+      place = record {
+        known = subst (KnownCarried targets []) (sym (behind-known out l t e)) (closed-known targets own [] m f h.place.known);
+        outside = s.carried;
+        confined = λ n c q w. ap (λ (o : Owner). targets o n) (beside-later l t.kind (attributes_at out l t)).owner ∙ k n c q;
+      };
       good = λ n. subst (IsGoodFound targets) (sym (types-find out l t.kind (attributes_at out l t) n e (opens-at out l t (ap is_part e)))) (good n);
     }
 
@@ -137,13 +144,14 @@ constants-around targets out l t e s =
     record { carried = s.carried; fields = subst (AllOpenedGood targets) (sym fields) s.fields; outside = s.outside; headings = s.headings }
 
 block-good : BlockLaw
-block-good targets out l c t v r p tells s g =
+block-good targets out l c t v r p tells s g k =
     let l1 = place_behind out l c in
     let own = own_domains (types_of out l c t).known in
     let start = constants-start targets own out l c p.first p.in_constants (all-cover l1 (attributes_at out l1 t).defines) g in
     let around = constants-around targets out l c p.first s in
     let fits = fits-block targets (types_of out l c t) (types-start targets out l1 t p.second p.in_types start).types tells in
-    let types = types-behind targets out l1 t p.second p.in_types tells around start in
+    let owner = (beside-later l c.kind (attributes_at out l c)).owner in
+    let types = types-behind targets out l1 t p.second p.in_types tells around start (λ n x q. ap (λ (o : Owner). targets o n) owner ∙ k n x q) in
     let l2 = place_behind out l1 t in
     let variables = (variables-behind targets out l2 v p.third p.in_variables s.headings types).1 in
     (fits, (routines-behind targets out (place_behind out l2 v) r p.fourth p.in_routines s.headings variables).1)
@@ -159,6 +167,7 @@ part-law = record {
   types = types-start;
   fits = fits-block;
   behind = types-behind;
+  later = block-later;
   variables = variables-behind;
   routines = routines-behind;
 }

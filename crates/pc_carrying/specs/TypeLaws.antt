@@ -1,5 +1,5 @@
 -- The definitions of constants and types: what they declare is carried, and what names mean behind them.
-use Rattle.std.proofs.Common.{◌≡◌, ℕ, Bool, true, false, if◌then◌else◌, List, [], ◌∷◌, ◌++◌, refl, sym, ◌∙◌, ap, subst}
+use Rattle.std.proofs.Common.{◌≡◌, ℕ, Bool, true, false, if◌then◌else◌, List, [], ◌∷◌, refl, sym, subst}
 use Rattle.std.proofs.lemmas.Bool.{true≢false, false≢true}
 use Rattle.std.specs.Prelude.{get_or}
 use Rattle.pc_syntax.specs.declared.kind.Kind.{Kind}
@@ -8,22 +8,22 @@ use Rattle.pc_syntax.specs.Plain.{Forest, Nil, Cons, Plain}
 use Rattle.pc_syntax.specs.Sorts.{is_hole}
 use Rattle.pc_syntax.specs.Words.{lowered}
 use Rattle.pc_types.specs.Shapes.{Domain}
-use Rattle.pc_types.specs.Domains.{stands_in}
 use Rattle.pc_scope.specs.Headings.{first_name}
-use Rattle.pc_rules.specs.Attributes.{Attributes, Marked, Node, nodes, missing}
+use Rattle.pc_rules.specs.Attributes.{Marked, Node, nodes, missing}
 use Rattle.pc_rules.specs.ClosedTypes.{own_domains}
 use Rattle.pc_rules.specs.DeclaringNames.{declares}
 use Rattle.pc_rules.specs.Decorated.{Seen, seen, rule, decorate}
 use Rattle.pc_rules.specs.HandedOn.{all_defines}
 use Rattle.pc_rules.specs.Meanings.{Meaning, Local, Outside, define_all}
 use Rattle.pc_rules.specs.Places.{pass, inner, beside}
-use Rattle.pc_environment.specs.Decorating.{attributes_at, below_at, place_behind}
+use Rattle.pc_environment.specs.Decorating.{attributes_at, place_behind}
 use Rattle.pc_pointers.specs.Good.{Targets}
 use Rattle.pc_closed.specs.Reached.{Covers}
-use Rattle.pc_closed.specs.Carried.{IsCarriedType, AllTypesCarried}
-use Rattle.pc_carrying.specs.Carrying.{IsPlainValue, CarriedPlace, KnownCarried, CarriedMarks, AllNodesCarried, AllDenoting, is_defining, AllDefining}
+use Rattle.pc_carrying.specs.Carrying.{CarriedPlace, KnownCarried, CarriedMarks, AllDenoting, is_defining, AllDefining}
 use Rattle.pc_carrying.specs.Parts.{IsSound, AllSound}
-use Rattle.pc_carrying.specs.KnownLaws.{own_types, sound-both, plain-sound, sound-carried, sound-types, all-cover, append-defined, SameNames, same-defined}
+use Rattle.pc_carrying.specs.KnownLaws.{own_types, sound-both, plain-sound, sound-carried, all-cover, append-defined, SameNames, same-defined}
+use Rattle.pc_carrying.specs.LaterLaws.{StaysLater, inner-later, beside-later}
+use Rattle.pc_carrying.specs.ConfinedLaws.{moved-place}
 use Rattle.pc_carrying.specs.NodeLaws.{nodes-carried, kid-carried}
 use Rattle.pc_carrying.specs.DenoterLaws.{same-place, marks-carried}
 
@@ -74,13 +74,13 @@ definition-sound : (targets : Targets) (own : List Domain) (out : Outside) (l : 
     AllSound targets own (rule l k w (seen out l k w) (decorate out (inner l k ks) ks)).defines
 definition-sound targets own out l k w ks e a g =
     rule-sound targets own l k w (seen out l k w) (decorate out (inner l k ks) ks) e
-    (marks-carried targets own out (inner l k ks) ks a (same-place targets own out l (inner l k ks) (inner-known l k ks e) g))
+    (marks-carried targets own out (inner l k ks) ks a (same-place targets own out l (inner l k ks) (inner-later l k ks) (inner-known l k ks e) g))
 
 -- a place behind which declarations are known
-known-place : (targets : Targets) (own : List Domain) (out : Outside) (l m : Local) (ds : List (List ℕ × Meaning)) → m.known ≡ (define_all l ds).known →
+known-place : (targets : Targets) (own : List Domain) (out : Outside) (l m : Local) (ds : List (List ℕ × Meaning)) → StaysLater l m → m.known ≡ (define_all l ds).known →
     Covers own (own_types (define_all l ds)) → AllSound targets own ds → CarriedPlace targets own out l → CarriedPlace targets own out m
-known-place targets own out l m ds q c h g =
-    same-place targets own out (define_all l ds) m q (record { known = sound-carried targets own l ds c h g.known; outside = g.outside })
+known-place targets own out l m ds k q c h g =
+    moved-place targets own out l m k (subst (KnownCarried targets own) (sym q) (sound-carried targets own l ds c h g.known)) g
 
 covers-same : (own : List Domain) (l m : Local) → l.known ≡ m.known → Covers own (own_types l) → Covers own (own_types m)
 covers-same own l m q c = subst (λ (ds : List (List ℕ × Meaning)). Covers own (own_domains ds)) q c
@@ -102,7 +102,7 @@ definitions-sound targets own out l (Cons k w ns ks ts) a c g =
     let here = definition-sound targets own out l k w ks a.0 a.1 g in
     let rest = covers-same own (define_all (define_all l r.defines) ds) (define_all next ds) (sym (same-defined next (define_all l r.defines) ds names).known) both in
     sound-both targets own r.defines ds here
-    (definitions-sound targets own out next ts a.2 rest (known-place targets own out l next r.defines names.known first here g))
+    (definitions-sound targets own out next ts a.2 rest (known-place targets own out l next r.defines (beside-later l k r) names.known first here g))
 
 -- ---- where they stand
 
@@ -116,7 +116,7 @@ definition-carried targets own out l t e a c g =
     let names = beside-names l t.kind t.word (seen out l t.kind t.word) m e in
     let ds = (attributes_at out l t).defines in
     let here = definition-sound targets own out l t.kind t.word t.kids e a g in
-    (here, known-place targets own out l (place_behind out l t) ds names.known (covers-same own (place_behind out l t) (define_all l ds) names.known c) here g)
+    (here, known-place targets own out l (place_behind out l t) ds (beside-later l t.kind (attributes_at out l t)) names.known (covers-same own (place_behind out l t) (define_all l ds) names.known c) here g)
 
 -- a list of definitions
 pub record IsCarriedPart (targets : Targets) (own : List Domain) (l : Local) (ds : List (List ℕ × Meaning)) : Type 0 where
@@ -151,5 +151,5 @@ part-carried targets own out l t e a c g =
     let names = part-inner l t.kind t.kids e in
     let cover = subst (λ (x : List (List ℕ × Meaning)). Covers own (own_types (define_all l x))) is c in
     let from = covers-same own (define_all l ds) (define_all start ds) (sym (same-defined start l ds names).known) cover in
-    let sound = definitions-sound targets own out start t.kids a from (same-place targets own out l start names.known g) in
+    let sound = definitions-sound targets own out start t.kids a from (same-place targets own out l start (inner-later l t.kind t.kids) names.known g) in
     subst (IsCarriedPart targets own l) (sym is) (record { sound = sound; known = sound-carried targets own l ds cover sound g.known })

@@ -1,33 +1,31 @@
 -- Variable declarations behind the type part: their types are settled, and what names mean stays good.
-use Rattle.std.proofs.Common.{◌≡◌, ℕ, Bool, true, false, if◌then◌else◌, List, [], ◌∷◌, ◌++◌, Option, Some, None, option_map, refl, sym, ◌∙◌, ap, subst}
-use Rattle.std.proofs.lemmas.Bool.{true≢false}
+use Rattle.std.proofs.Common.{◌≡◌, ℕ, Bool, true, false, if◌then◌else◌, List, [], ◌∷◌, ◌++◌, Option, Some, None, refl}
 use Rattle.std.specs.Prelude.{get_or}
 use Rattle.std.specs.Str.{bytes_eq}
-use Rattle.pc_syntax.specs.declared.kind.Kind.{Kind}
 use Rattle.pc_syntax.specs.declared.kind.Kind.TheVariants as kind
-use Rattle.pc_syntax.specs.Plain.{Forest, Plain}
+use Rattle.pc_syntax.specs.Plain.{Forest}
 use Rattle.pc_syntax.specs.Words.{is_among}
 use Rattle.pc_types.specs.Shapes.{Domain, Typed}
 use Rattle.pc_scope.specs.Headings.{names_of_first}
-use Rattle.pc_rules.specs.Attributes.{Attributes, Marked, Node, nodes, missing, kids_below}
+use Rattle.pc_rules.specs.Attributes.{Marked, nodes, missing, kids_below}
 use Rattle.pc_rules.specs.DeclaringNames.{names_in, all_as}
 use Rattle.pc_rules.specs.Declarations.{completed}
 use Rattle.pc_rules.specs.Decorated.{Seen, seen, rule, decorate}
 use Rattle.pc_rules.specs.Meanings.{VariableName, Meaning, Value, Found, Local, Outside, declared_as, entry_of, is_routine_class, with_signature, known_or, later_or, field_or, find, define, define_all}
 use Rattle.pc_rules.specs.NameClasses.{is_type_class}
-use Rattle.pc_rules.specs.Places.{inner, beside}
-use Rattle.pc_rules.specs.Variables.{result_of}
-use Rattle.pc_environment.specs.Decorating.{attributes_at, below_at, place_behind}
+use Rattle.pc_rules.specs.Places.{inner}
 use Rattle.pc_pointers.specs.Good.{Targets, IsGoodType, IsGoodConstant, IsGoodMeaning, IsGoodFound, GoodPlace}
 use Rattle.pc_closed.specs.LeadLaws.{nowhere-leads}
 use Rattle.pc_closed.specs.Settled.{AllAgree, AllAgreeApart, IsSettledType, IsGoodBeside, AllGoodBeside}
 use Rattle.pc_closed.specs.Carried.{IsCarriedType}
 use Rattle.pc_closed.specs.BlockLaws.{closed-law}
-use Rattle.pc_carrying.specs.Carrying.{IsPlainValue, CarriedPlace, KnownCarried, IsPlain, AllPlain, CarriedMarks, AllNodesCarried, AllDenoting}
+use Rattle.pc_carrying.specs.Carrying.{IsPlainValue, CarriedPlace, AllPlain, CarriedMarks, AllDenoting}
 use Rattle.pc_carrying.specs.Parts.{AllBeside, IsSettledPart, GoodHeadings}
 use Rattle.pc_carrying.specs.KnownLaws.{plain-beside, beside-both, beside-carried}
+use Rattle.pc_carrying.specs.LaterLaws.{inner-later}
+use Rattle.pc_carrying.specs.ConfinedLaws.{moved-place}
 use Rattle.pc_carrying.specs.NodeLaws.{nodes-carried, kid-carried}
-use Rattle.pc_carrying.specs.DenoterLaws.{same-place, marks-carried}
+use Rattle.pc_carrying.specs.DenoterLaws.{marks-carried}
 
 -- ---- a completed type is settled
 
@@ -90,10 +88,9 @@ rule-settled targets l w s m g =
 
 -- the denoter stands behind the names, whose types aren't known yet
 inner-carried : (targets : Targets) (own : List Domain) (out : Outside) (l : Local) (ks : Forest) → CarriedPlace targets own out l → CarriedPlace targets own out (inner l kind.Vardef ks)
-inner-carried targets own out l ks g = record {
-  known = beside-carried targets own l (all_as (declared_as VariableName l.owner) (names_of_first ks)) (variables-beside (declared_as VariableName l.owner) (names_of_first ks) refl tt) g.known;
-  outside = g.outside;
-}
+inner-carried targets own out l ks g =
+    moved-place targets own out l (inner l kind.Vardef ks) (inner-later l kind.Vardef ks)
+    (beside-carried targets own l (all_as (declared_as VariableName l.owner) (names_of_first ks)) (variables-beside (declared_as VariableName l.owner) (names_of_first ks) refl tt) g.known) g
 
 pub variables-settled : (targets : Targets) (out : Outside) (l : Local) (w : List ℕ) (ks : Forest) → AllDenoting ks → CarriedPlace targets [] out l →
     IsSettledPart targets (rule l kind.Vardef w (seen out l kind.Vardef w) (decorate out (inner l kind.Vardef ks) ks)).defines

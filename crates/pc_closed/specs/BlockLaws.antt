@@ -89,10 +89,10 @@ closed-law = record {
 
 -- ---- targets of a block, and those around it
 
-with-tells : (own : List Domain) (outer : Targets) → Tells (with_types own outer) own
+pub with-tells : (own : List Domain) (outer : Targets) → Tells (with_types own outer) own
 with-tells own outer o n s = rw s refl
 
-with-elsewhere : (own : List Domain) (outer : Targets) (o : Owner) (n : List ℕ) → stands_in own o n ≡ false → with_types own outer o n ≡ outer o n
+pub with-elsewhere : (own : List Domain) (outer : Targets) (o : Owner) (n : List ℕ) → stands_in own o n ≡ false → with_types own outer o n ≡ outer o n
 with-elsewhere own outer o n s = rw s refl
 
 -- where the places are those of the types behind, domains apart from these agree with either

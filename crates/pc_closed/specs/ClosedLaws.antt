@@ -58,7 +58,7 @@ agreeing-settled targets table t typed h k a e =
 -- ---- the types of a block
 
 -- elsewhere what stands at a place is what the targets say
-apart-at : (targets : Targets) (own ds : List Domain) (o : Owner) (n : List ℕ) → AllAgreeApart targets own ds → stands_in own o n ≡ false → stands_in ds o n ≡ true → domain_in ds o n ≡ targets o n
+pub apart-at : (targets : Targets) (own ds : List Domain) (o : Owner) (n : List ℕ) → AllAgreeApart targets own ds → stands_in own o n ≡ false → stands_in ds o n ≡ true → domain_in ds o n ≡ targets o n
 apart-at targets own [] o n h a s = absurd (true≢false (sym s))
 apart-at targets own (d ∷ ds) o n h a s = by (apart-at targets own ds o n h.1 a) (is_domain o n d) refl s where
   by : (stands_in ds o n ≡ true → domain_in ds o n ≡ targets o n) → (b : Bool) → is_domain o n d ≡ b → (b || stands_in ds o n) ≡ true →

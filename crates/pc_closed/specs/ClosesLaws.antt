@@ -14,6 +14,7 @@ use Rattle.pc_closed.specs.Settled.{HostsLeadNowhere, HostsLeadNowhereIfAny, All
 use Rattle.pc_closed.specs.Carried.{IsCarriedType, IsCarriedFound, ClosesLaw, shape_if_any}
 use Rattle.pc_closed.specs.LeadLaws.{hosts-from, closed-tells}
 use Rattle.pc_closed.specs.ClosedLaws.{hosts-both, block-settled}
+use Rattle.pc_closed.specs.ApartLaws.{leads-apart, lead-apart}
 use Rattle.pc_closed.specs.WalkLaws.{reached-law}
 
 -- ---- hosts
@@ -99,7 +100,13 @@ apart-from targets own (d ∷ ds) h = ((λ s. h.0), apart-from targets own ds h.
 
 carried-from : (targets : Targets) (own : List Domain) (t : Option Typed) → IsSettledType targets t → HostsOfType t → IsCarriedType targets own t
 carried-from targets own None s h = tt
-carried-from targets own (Some t) s h = record { others = apart-from targets own t.domains s.agree; hosts = h.0; further = h.1 }
+carried-from targets own (Some t) s h = record {
+  others = apart-from targets own t.domains s.agree;
+  hosts = h.0;
+  further = h.1;
+  leads = leads-apart targets own t.domains t.shape s.good.leads;
+  lead = lead-apart targets own t.domains t.domains s.good.reached;
+}
 
 types-carried : (targets : Targets) (own : List Domain) (l : Local) (n : List ℕ) (m : Meaning) → FitsBlock targets l → entry_of (close_types l).known n ≡ Some m → is_type_class m.class ≡ true →
     IsCarriedFound targets own n (Here m)

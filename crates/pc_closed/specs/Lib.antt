@@ -6,5 +6,8 @@ pub mod LeadLaws
 pub mod ClosedLaws
 pub mod BlockLaws
 pub mod Carried
+pub mod ApartLaws
+pub mod RecordLaws
 pub mod CarriedLaws
 pub mod ClosesLaws
+pub mod TogetherLaws

@@ -1,6 +1,6 @@
 //! Laws of what is reached from a type.
 
-ghost use Rattle.pc_closed.specs.Carried.{CarriedLaw, ClosesLaw};
+ghost use Rattle.pc_closed.specs.Carried.{CarriedLaw, ClosesLaw, TogetherLaw};
 ghost use Rattle.pc_closed.specs.Reached.{ReachedLaw};
 ghost use Rattle.pc_closed.specs.Settled.{ClosedLaw, OuterLaw};
 
@@ -31,4 +31,10 @@ pub fn denoters_carry()
 /// agree with them: so it does in each block inside.
 pub fn blocks_hand_on()
     ensures { ClosesLaw }
+{}
+
+/// What is carried is good for the targets alone; the types of a type part, each with all of them and all that they carry along, are good
+/// for targets that say what these types are, and what others say elsewhere.
+pub fn types_go_together()
+    ensures { TogetherLaw }
 {}

@@ -7,4 +7,5 @@ mod laws;
 
 pub use laws::{
     all_is_reached, blocks_hand_on, closed_types_agree, denoters_carry, outer_types_stay,
+    types_go_together,
 };

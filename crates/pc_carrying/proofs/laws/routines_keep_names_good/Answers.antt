@@ -1,4 +1,3 @@
-use Rattle.pc_carrying.specs.Parts.{RoutineLaw}
 use Rattle.pc_carrying.specs.RoutineLaws.{routines-inner, routine-behind}
 use Rattle.pc_carrying.proofs.laws.routines_keep_names_good.Goals as goal
 
