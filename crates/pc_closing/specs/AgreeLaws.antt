@@ -61,7 +61,7 @@ backwards a b t same w =
     (record { whole = w; covered = (reached-law.all a t).first })
 
 -- two tests that hold together are equal
-equal-tests : (x y : Bool) → (x ≡ true → y ≡ true) → (y ≡ true → x ≡ true) → x ≡ y
+pub equal-tests : (x y : Bool) → (x ≡ true → y ≡ true) → (y ≡ true → x ≡ true) → x ≡ y
 equal-tests true y f g = sym (f refl)
 equal-tests false true f g = g refl
 equal-tests false false f g = refl
@@ -70,7 +70,7 @@ agree-whole : (a b : List Domain) (t : Shape) → AgreeAt a b t → is_whole_in 
 agree-whole a b t same = equal-tests (is_whole_in a t) (is_whole_in b t) (forwards a b t same) (backwards a b t same)
 
 -- the shape of a closed type
-shape-of : (ds : List Domain) (t : Shape) → closed_shape ds (Some t) ≡ (if is_whole_in ds t then Some t else None)
+pub shape-of : (ds : List Domain) (t : Shape) → closed_shape ds (Some t) ≡ (if is_whole_in ds t then Some t else None)
 shape-of ds t = by (is_whole_in ds t) where
   by : (w : Bool) → option_map (λ (x : Typed). x.shape) (if w then Some (record { shape = t; domains = reached ds t }) else None) ≡ (if w then Some t else None)
   by true = refl

@@ -19,7 +19,7 @@ at-both : (p : Owner → List ℕ → Bool) (ds es : List Domain) → AllAt p ds
 at-both p [] es h k = k
 at-both p (d ∷ ds) es h k = (h.0, at-both p ds es h.1 k)
 
-option-from : (table : List Domain) (t : Option Shape) → AllFrom table (named_in_option table t)
+pub option-from : (table : List Domain) (t : Option Shape) → AllFrom table (named_in_option table t)
 option-from table None = tt
 option-from table (Some t) = named-from table t
 

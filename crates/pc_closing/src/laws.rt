@@ -1,6 +1,7 @@
 //! Laws of whole types.
 
 ghost use Rattle.pc_closing.specs.Kept.{KeptLaw};
+ghost use Rattle.pc_closing.specs.Truth.{TruthLaw};
 ghost use Rattle.pc_closing.specs.Whole.{AgreeLaw, WholeLaw};
 
 /// A whole type leads to whole types, and what leads only to types of its kind is whole.
@@ -18,4 +19,10 @@ pub fn reached_places_decide()
 /// with flags.
 pub fn flags_stay_right()
     ensures { KeptLaw }
+{}
+
+/// A type of a table is whole by numbers exactly where it is closed by the rules' list of domains, if both lead to what one truth says; and
+/// flags stay right where a table grows and where targets that aren't whole are forgotten.
+pub fn numbers_agree_with_rules()
+    ensures { TruthLaw }
 {}

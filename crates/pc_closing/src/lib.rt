@@ -12,5 +12,8 @@ mod search;
 mod users;
 mod whole;
 
-pub use laws::{flags_stay_right, reached_places_decide, whole_types_lead_to_whole_types};
+pub use laws::{
+    flags_stay_right, numbers_agree_with_rules, reached_places_decide,
+    whole_types_lead_to_whole_types,
+};
 pub use whole::Whole;
