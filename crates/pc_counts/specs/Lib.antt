@@ -1,0 +1,12 @@
+pub mod Counting
+pub mod CountingLaws
+pub mod Counted
+pub mod CountedLaws
+pub mod NamesLaws
+pub mod PartKinds
+pub mod PartKindsLaws
+pub mod PartTrees
+pub mod SilentLaws
+pub mod PartLaws
+pub mod PassedLaws
+pub mod BeforeLaws
