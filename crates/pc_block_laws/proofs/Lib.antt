@@ -1,0 +1,17 @@
+pub mod OnceLemmas
+pub mod OnceNodes
+pub mod TypelessLemmas
+pub mod HeadingLemmas
+pub mod ParameterLemmas
+pub mod RoutineParameters
+pub mod StartLemmas
+pub mod TypePartLemmas
+pub mod TypeNameLemmas
+pub mod OwnTypesLemmas
+pub mod OwnBlockLemmas
+pub mod BodyPlaceLemmas
+pub mod FollowLemmas
+pub mod FollowRoutines
+pub mod OwnersLemmas
+pub mod OwnerTables
+pub mod TouchedLemmas
