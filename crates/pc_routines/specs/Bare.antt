@@ -1,5 +1,5 @@
 -- A routine in the own block around it: its entries there, and what it declares (ISO 7185, 6.2.2.7, 6.6.1, 6.6.2).
-use Rattle.std.specs.Prelude.{◌≡◌, ℕ, Bool, true, false, not, ◌&&◌, ◌==◌, if◌then◌else◌, List, [], ◌∷◌, length, None, codes, ◌++◌, slice_get}
+use Rattle.std.specs.Prelude.{◌≡◌, ℕ, Bool, true, false, not, ◌&&◌, ◌==◌, if◌then◌else◌, List, [], ◌∷◌, length, Option, Some, None, codes, ◌++◌, slice_get}
 use Rattle.std.specs.Option.{option_map_or}
 use Rattle.pc_syntax.specs.Plain.{Forest, Nil, Cons, Plain, count, trees_of}
 use Rattle.pc_syntax.specs.declared.kind.Kind.{Kind}
@@ -15,6 +15,8 @@ use Rattle.pc_rules.specs.Declarations.{heading_here, rest_of, is_later_declarat
 use Rattle.pc_rules.specs.Meanings.{Meaning, Local, Outside, declared_as}
 use Rattle.pc_environment.specs.Decorating.{attributes_at}
 use Rattle.pc_facts.specs.declared.sighting.Declared.{Declared}
+use Rattle.pc_places.specs.Places.{AddsDeclaration}
+use Rattle.pc_places.specs.declared.tables.Tables.{Tables}
 use Rattle.pc_routines.specs.declared.facts.RoutineFacts.{RoutineFacts}
 use Rattle.pc_rules.specs.Entries.{note_if, quoted}
 use Rattle.pc_rules.specs.OwnBlock.{bare_heading}
@@ -82,3 +84,9 @@ class_of false = class.Procedure
 -- the declaration of a routine, its signature aside
 abbrev pub declared_routine : OwnerId → NameId → Bool → Declared
 declared_routine owner name is_function = record { class = class_of is_function; owner = owner; name = name; value = None; of = None; signature = None }
+
+-- the last declaration is that of a routine with this name; a later declaration of a forward one, or one without a name, adds none
+abbrev pub AddsRoutine : ℕ → OwnerId → Option NameId → Bool → Bool → Tables → Tables → Type 0
+AddsRoutine block owner name is_function true old new = new ≡ old
+AddsRoutine block owner None is_function false old new = new ≡ old
+AddsRoutine block owner (Some name) is_function false old new = AddsDeclaration block name.0 (declared_routine owner name is_function) old new

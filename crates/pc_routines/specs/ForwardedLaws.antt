@@ -6,7 +6,7 @@ use Rattle.pc_rules.specs.RoutineList.{Forwarded, forwarded_for}
 use Rattle.pc_rules.specs.Meanings.{Meaning}
 use Rattle.pc_growth.specs.Grows.{Begins, Grows}
 use Rattle.pc_growth.specs.GrowsLaws.{get_or-begins, less-begins, length-begins}
-use Rattle.pc_places.specs.ParametersLaws.{ShowsParameters-grows, AreNamed-grows}
+use Rattle.pc_places.specs.ParametersLaws.{ShowsParameters-grows, AreNamed-grows, HaveNames-grows}
 use Rattle.pc_places.specs.Places.{known}
 use Rattle.pc_types.specs.Table.{nobody}
 use Rattle.pc_places.specs.declared.tables.Tables.{Tables}
@@ -41,11 +41,12 @@ found-waits t w x h ws fs shows s = both (found_at (waiting_at w) x.name x.is_fu
 pub ShowsForward-grows : (old new : Tables) (f : Forward) (key : Option (List (List ℕ))) (ps : List (List ℕ × Meaning)) → Grows (known old) (known new) →
     Begins old.declarations.items new.declarations.items → ShowsForward old f key ps → ShowsForward new f key ps
 ShowsForward-grows old new f key ps g d s = record {
-  has_key = s.has_key;
+  key = s.key;
   owner = λ k e. get_or-begins (known old).table.owners (known new).table.owners f.owner.0 nobody g.owners s.there ∙ s.owner k e;
   there = less-begins (known old).table.owners (known new).table.owners f.owner.0 g.owners s.there;
   parameters = ShowsParameters-grows (known old) (known new) old.declarations.items new.declarations.items f.parameters.items ps g d s.parameters;
   named = AreNamed-grows (length old.names.texts) (length new.names.texts) f.parameters.items (length-begins old.names.texts new.names.texts g.names) s.named;
+  have_names = HaveNames-grows old.declarations.items new.declarations.items f.parameters.items d s.have_names;
 }
 
 pub Waits-grows : (old new : Tables) (w : List ((ℕ × ℕ) × Option Forward)) (ws : List Heading) (fs : List Forwarded) → Grows (known old) (known new) →

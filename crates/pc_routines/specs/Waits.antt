@@ -11,18 +11,20 @@ use Rattle.pc_rules.specs.Meanings.{Meaning}
 use Rattle.pc_rules.specs.RoutineList.{Forwarded, forwarded_for, key_of}
 use Rattle.pc_rules.specs.Routines.{Routine, parameters_of}
 use Rattle.pc_places.specs.declared.tables.Tables.{Tables}
-use Rattle.pc_places.specs.Parameters.{ShowsParameters, AreNamed}
+use Rattle.pc_places.specs.Parameters.{ShowsParameters, AreNamed, HaveNames}
 use Rattle.pc_places.specs.Places.{known}
 use Rattle.pc_routines.specs.declared.forward.Forward.{Forward}
 use Rattle.pc_routines.specs.Heads.{side, found_for}
 
--- what a forward routine gives to its later declaration: its key, if it has one, and its parameters
-pub record ShowsForward (t : Tables) (f : Forward) (key : Option (List (List ℕ))) (ps : List (List ℕ × Meaning)) : Type 0 where
-  pub has_key : f.has_key ≡ is_some key
-  pub owner : (k : List (List ℕ)) → key ≡ Some k → get_or (known t).table.owners f.owner.0 nobody ≡ Keyed k
+-- what a forward routine gives to its later declaration: its key, if it has one, and its parameters, whose declarations are ones under their
+-- names
+pub record ShowsForward (t : Tables) (f : Forward) (own : Option (List (List ℕ))) (ps : List (List ℕ × Meaning)) : Type 0 where
+  pub key : f.key ≡ own
+  pub owner : (k : List (List ℕ)) → own ≡ Some k → get_or (known t).table.owners f.owner.0 nobody ≡ Keyed k
   pub there : f.owner.0 < length (known t).table.owners
   pub parameters : ShowsParameters (known t) t.declarations.items f.parameters.items ps
   pub named : AreNamed (length t.names.texts) f.parameters.items
+  pub have_names : HaveNames t.declarations.items f.parameters.items
 
 -- a forward routine that the rules have, where there may be none
 abbrev pub ShowsForwarded : Tables → Option Forward → Option Forwarded → Type 0

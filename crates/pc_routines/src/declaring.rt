@@ -36,6 +36,7 @@ pub fn declare_routine(
     requires name { ForSome head.now.name (λ i. i.0 < length tables.old.names.texts) }
     ensures place { OnOk result ((out : Outside) (l : Local) (t : Plain) → is_routine_kind t.kind ≡ true → IsProper t → heading_here l ≡ heading_of t.kind t.kids → ShowsHead tables.old.names.texts head.now (heading_here l) → later ≡ is_later_declaration l → IsPlace tables.old block.0 owner.0 out l → IsPlace tables.new block.0 owner.0 out (behind l t.kind (attributes_at out l (bare_routine t)))) }
     ensures moves { OnOk result (Moves block.0 tables.old tables.new) }
+    ensures added { OnOk result (bare.AddsRoutine block.0 owner head.now.name head.now.is_function later tables.old tables.new) }
     ensures some { IfOk result (λ d. is_some d ≡ (not later && is_some head.now.name)) }
     ensures declared { IfOk result (λ d. ForSome d (λ i. ForSome head.now.name (λ n. slice_get tables.new.declarations.items i.0 ≡ Some (bare.declared_routine owner n head.now.is_function)))) }
 {

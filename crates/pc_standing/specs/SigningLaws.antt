@@ -42,7 +42,7 @@ HasSignature-grows a b sig n x grows h = (
 
 -- ---- what a block had of a name
 
-kept-at : (old new : Tables) (sig : Signatures) (b : ℕ) (n : List ℕ) → Grows (known old) (known new) → Begins old.declarations.items new.declarations.items → IsNamed old.names old.declarations.items →
+pub kept-at : (old new : Tables) (sig : Signatures) (b : ℕ) (n : List ℕ) → Grows (known old) (known new) → Begins old.declarations.items new.declarations.items → IsNamed old.names old.declarations.items →
     SignsBlock old sig b → (d : DeclarationId) (x : Declared) → (slot_named old.names b n).known ≡ Some d → slice_get new.declarations.items d.0 ≡ Some x →
     is_routine_class (meant x.class) ≡ true → HasSignature (known new) sig n x
 kept-at old new sig b n grows begins named signs d x was is routine =
