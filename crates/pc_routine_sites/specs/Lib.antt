@@ -1,0 +1,17 @@
+pub mod Visits
+pub mod Sites
+pub mod Identities
+pub mod Declaring
+pub mod Steps
+pub mod VisitsLaws
+pub mod OwnerLaws
+pub mod BehindLaws
+pub mod SignedLaws
+pub mod FreshLaws
+pub mod ToldLaws
+pub mod DeclaredLaws
+pub mod IdentityLaws
+pub mod SiteLaws
+pub mod AroundLaws
+pub mod ParametersLaws
+pub mod FoundLaws
