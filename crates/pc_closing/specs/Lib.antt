@@ -22,4 +22,5 @@ pub mod SpreadLaws
 pub mod StepLaws
 pub mod EndedLaws
 pub mod EndLaws
+pub mod ChangesLaws
 pub mod FlagLaws

@@ -26,6 +26,10 @@ TargetThere types (Some part) = PartThere types part
 abbrev pub IsTarget : Table → Shape → Option (Option TypeId) → Type 0
 IsTarget table s target = option_map (option_map (numbered table.shapes)) target ≡ option_map (λ (p : Place). domain_in table.domains p.owner p.name) (domain_place s)
 
+-- how the marks and those that lead to others change, whatever types lead to
+abbrev pub Changes : List (List ℕ) → List (List ℕ) → Marks → Marks → Type 0
+Changes us vs m n = Moves (λ i. Unit {0}) us vs m n
+
 -- what a call says that notes what a new type leads to
 pub record IsNoted (flags : List Bool) (table : Table) (i : ℕ) (us vs : List (List ℕ)) (m n : Marks) : Type 0 where
   pub moves : Moves (BadAt table (length flags)) us vs m n

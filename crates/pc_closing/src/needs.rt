@@ -5,7 +5,7 @@ ghost use Rattle.pc_types.specs.Rows.{seen};
 ghost use Rattle.pc_types.specs.Table.{numbered};
 ghost use Rattle.pc_closing.specs.Whole.{AreFound, AreWhole};
 ghost use Rattle.pc_closing.specs.Search.{marks_needing, users_needing, marks_if, users_if, marks_all, users_all, marks_to, users_to};
-ghost use Rattle.pc_closing.specs.Searched.{IsNoted, IsTarget, TargetThere};
+ghost use Rattle.pc_closing.specs.Searched.{Changes, IsNoted, IsTarget, TargetThere};
 
 use crate::marks::Marks;
 use crate::numbers::u32_of;
@@ -104,8 +104,7 @@ fn need_to(
 
 /// The type of the domain, if it is a pointer type.
 fn target(types: &Types, of: TypeId) -> Option<Option<TypeId>>
-    requires { AreFound (seen types.now) }
-    ensures target { IsTarget (seen types.now) (numbered (seen types.now).shapes of) result }
+    ensures target { AreFound (seen types.now) → IsTarget (seen types.now) (numbered (seen types.now).shapes of) result }
     ensures there { TargetThere (length (seen types.now).shapes) result }
 {
     match types.pointed(Operand::Id(of)) {
@@ -114,8 +113,8 @@ fn target(types: &Types, of: TypeId) -> Option<Option<TypeId>>
     }
 }
 
-/// Notes what a new type leads to: it is not whole, or it is among those that lead to each new type that it leads to. Only memory can
-/// fail.
+/// Notes what a new type leads to: it is not whole, or it is among those that lead to each new type that it leads to; given that the
+/// flags are right, and that the table has at the place of each domain that domain's type. Only memory can fail.
 pub(crate) fn note(
     flags: &[bool],
     types: &Types,
@@ -123,11 +122,10 @@ pub(crate) fn note(
     marks: &mut Marks,
     id: u32,
 ) -> Result<(), AllocError>
-    requires right { AreWhole (seen types.now) flags.now }
-    requires found { AreFound (seen types.now) }
     requires count { length flags.now + length users.old ≡ length (seen types.now).shapes }
     requires new { id < length users.old }
-    ensures { OnOk result (IsNoted flags.now (seen types.now) id users.old users.new marks.old marks.new) }
+    ensures changes { OnOk result (Changes users.old users.new marks.old marks.new) }
+    ensures noted { OnOk result (AreWhole (seen types.now) flags.now → AreFound (seen types.now) → IsNoted flags.now (seen types.now) id users.old users.new marks.old marks.new) }
 {
     let of = TypeId(u32_of(flags.len() + id as usize)?);
     need_if(flags, users, marks, types.element(Operand::Id(of)), id)?;

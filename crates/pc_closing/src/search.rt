@@ -4,7 +4,7 @@ ghost use Rattle.std.specs.Prelude.{◌≡◌, ◌+◌, ◌++◌, length, IfOk, 
 ghost use Rattle.pc_types.specs.Rows.{seen};
 ghost use Rattle.pc_closing.specs.Whole.{AreFound, AreWhole};
 ghost use Rattle.pc_closing.specs.Search.{AreCounted};
-ghost use Rattle.pc_closing.specs.Searched.{Gathers, Spreads};
+ghost use Rattle.pc_closing.specs.Searched.{Changes, Gathers, Spreads};
 
 use crate::marks::Marks;
 use crate::needs::note;
@@ -21,10 +21,8 @@ pub(crate) fn search(
     types: &Types,
     count: usize,
 ) -> Result<Vec<bool>, AllocError>
-    requires right { AreWhole (seen types.now) flags.now }
-    requires found { AreFound (seen types.now) }
     requires count { length flags.now + count ≡ length (seen types.now).shapes }
-    ensures right { IfOk result (λ more. AreWhole (seen types.now) (flags.now ++ more.items)) }
+    ensures right { IfOk result (λ more. AreWhole (seen types.now) flags.now → AreFound (seen types.now) → AreWhole (seen types.now) (flags.now ++ more.items)) }
     ensures count { IfOk result (λ more. length more.items ≡ count) }
 {
     let mut users = no_users(alloc, count)?;
@@ -41,10 +39,9 @@ fn gather(
     users: &mut [Users],
     marks: &mut Marks,
 ) -> Result<(), AllocError>
-    requires right { AreWhole (seen types.now) flags.now }
-    requires found { AreFound (seen types.now) }
     requires count { length flags.now + length users.old ≡ length (seen types.now).shapes }
-    ensures { OnOk result (Gathers flags.now (seen types.now) users.old users.new marks.old marks.new (length users.old)) }
+    ensures changes { OnOk result (Changes users.old users.new marks.old marks.new) }
+    ensures gathered { OnOk result (AreWhole (seen types.now) flags.now → AreFound (seen types.now) → Gathers flags.now (seen types.now) users.old users.new marks.old marks.new (length users.old)) }
 {
     let count = u32_of(users.len())?;
     for id in 0..count {

@@ -34,12 +34,11 @@ impl Whole {
         }
     }
 
-    /// Flags for the types that have none so far; those that there are must be right for the table as it is now. Only memory can fail, and
-    /// then nothing has changed. Work: in the number of the types without flags and of their fields.
+    /// Flags for the types that have none so far; all are right where those that there are were right for the table as it is now, and the
+    /// table has at the place of each domain that domain's type. Only memory can fail, and then nothing has changed. Work: in the number of
+    /// the types without flags and of their fields.
     pub fn settle(&mut self, alloc: Global, types: &Types) -> Result<(), AllocError>
-        requires right { AreWhole (seen types.now) self.old }
-        requires found { AreFound (seen types.now) }
-        ensures right { OnOk result (AreWhole (seen types.now) self.new) }
+        ensures right { OnOk result (AreWhole (seen types.now) self.old → AreFound (seen types.now) → AreWhole (seen types.now) self.new) }
         ensures all { OnOk result (length self.new ≡ max (length self.old) (length (seen types.now).shapes)) }
         ensures failure { OnErr result (self.new ≡ self.old) }
     {
@@ -52,12 +51,10 @@ impl Whole {
         Ok(())
     }
 
-    /// Whether every domain that is reached from the type of an expression has a type. Each type of the table must have a flag, and the
-    /// flags must be right. Work: one look.
+    /// Whether every domain that is reached from the type of an expression has a type, where each type of the table has a flag, and the
+    /// flags are right. Work: one look.
     pub fn is_whole(&self, types: &Types, of: Operand) -> bool
-        requires right { AreWhole (seen types.now) self.now }
-        requires all { length (seen types.now).shapes ≤ length self.now }
-        ensures { result ≡ is_whole_in (seen types.now).domains (shape_at (seen types.now) of) }
+        ensures { AreWhole (seen types.now) self.now → length (seen types.now).shapes ≤ length self.now → result ≡ is_whole_in (seen types.now).domains (shape_at (seen types.now) of) }
     {
         match of {
             Operand::Id(id) => self.flag(id.0 as usize),

@@ -4,13 +4,13 @@ use Rattle.pc_closing.specs.FlagLaws.{flag-of, text-whole, members-whole, no_mem
 use Rattle.pc_closing.proofs.whole.Whole.is_whole.Goals as goal
 
 pub returns-in-Id : goal.returns-in-Id
-returns-in-Id c = c.flag.ensures ∙ flag-of (seen c.args.types.now) c.args.self.now c.args.of c.in-Id.id c.in-Id.is c.requires.right c.requires.all
+returns-in-Id c = λ right all. c.flag.ensures ∙ flag-of (seen c.args.types.now) c.args.self.now c.args.of c.in-Id.id c.in-Id.is right all
 
 pub returns-in-Text : goal.returns-in-Text
-returns-in-Text c = text-whole (seen c.args.types.now) c.args.of _ c.in-Text.is
+returns-in-Text c = λ right all. text-whole (seen c.args.types.now) c.args.of _ c.in-Text.is
 
 pub returns-in-Members : goal.returns-in-Members
-returns-in-Members c = members-whole (seen c.args.types.now) c.args.of _ c.in-Members.is
+returns-in-Members c = λ right all. members-whole (seen c.args.types.now) c.args.of _ c.in-Members.is
 
 pub returns-in-NoMembers : goal.returns-in-NoMembers
-returns-in-NoMembers c = no_members-whole (seen c.args.types.now) c.args.of c.in-NoMembers.is
+returns-in-NoMembers c = λ right all. no_members-whole (seen c.args.types.now) c.args.of c.in-NoMembers.is
