@@ -38,7 +38,7 @@ pub times-none : (ms : List (List ℕ)) (n : List ℕ) → is_among ms n ≡ fal
 times-none [] n e = refl
 times-none (m ∷ ms) n e = none-by (bytes_eq m n) (is_among ms n) (times_in ms n) e (times-none ms n)
 
-number-named : (l : Local) (part : ℕ) (n : List ℕ) → (n ≡ [] → ⊥) → (denoter_named l part n).number ≡ times_in l.passed n
+pub number-named : (l : Local) (part : ℕ) (n : List ℕ) → (n ≡ [] → ⊥) → (denoter_named l part n).number ≡ times_in l.passed n
 number-named l part [] some = absurd (some refl)
 number-named l part (c ∷ cs) some = refl
 

@@ -1,5 +1,5 @@
 -- The names of a variable declaration, one after the other: laws.
-use Rattle.std.specs.Prelude.{◌≡◌, ◌+◌, ℕ, Bool, true, false, not, ◌||◌, if◌then◌else◌, List, [], ◌∷◌, ◌++◌, suc, length, Option, Some, None}
+use Rattle.std.specs.Prelude.{◌≡◌, ◌<◌, ◌+◌, ℕ, Bool, true, false, not, ◌||◌, if◌then◌else◌, List, [], ◌∷◌, ◌++◌, suc, length, Option, Some, None}
 use Rattle.std.specs.Option.{is_some}
 use Rattle.std.specs.Str.{bytes_eq}
 use Rattle.std.proofs.Common.{refl, ap, sym, ◌∙◌, subst, arith, append_assoc, append-nil}
@@ -24,6 +24,8 @@ use Rattle.pc_rules.specs.Decorated.{seen, rule, decorate}
 use Rattle.pc_rules.specs.ListRuleLaws.{rule-kind, rule-word}
 use Rattle.pc_rules.specs.Places.{inner, beside}
 use Rattle.pc_rules.specs.Meanings.{Meaning, Local, Outside, define, define_all, entry_of}
+use Rattle.pc_growth.specs.Grows.{Begins}
+use Rattle.pc_growth.specs.GrowsLaws.{less-begins}
 use Rattle.pc_places.specs.MovesLaws.{IsPlace-kept, Moves-kept, Moves-same, Moves-then}
 use Rattle.pc_places.specs.Places.{known, IsPlace, Keeps, Moves}
 use Rattle.pc_places.specs.Scenes.{Declares, ShowsUnsigned}
@@ -34,7 +36,7 @@ use Rattle.pc_definitions.specs.Namings.{ShowsParts}
 use Rattle.pc_definitions.specs.RuleLaws.{no-type}
 use Rattle.pc_definitions.specs.VariableMakes.{names-grow}
 use Rattle.pc_definitions.specs.Variables.{untyped, AreNames, EntersVariables}
-use Rattle.pc_definitions.specs.VariableNames.{twice_at, repeats_at, any_hole_at, DeclaredSoFar}
+use Rattle.pc_definitions.specs.VariableNames.{twice_at, repeats_at, any_hole_at, AreNumbers, DeclaredSoFar}
 use Rattle.pc_definitions.specs.declared.variables.Variables.{Variables}
 
 -- a name before others, where it is no hole
@@ -76,6 +78,15 @@ AreNames-end texts [] [] i n h e = (e, tt)
 AreNames-end texts (j ∷ is) (m ∷ ns) i n h e = (h.0, AreNames-end texts is ns i n h.1 e)
 AreNames-end texts [] (m ∷ ns) i n h e = absurd h
 AreNames-end texts (j ∷ is) [] i n h e = absurd h
+
+-- they are numbers of as many names, where more have got numbers
+pub numbers-grow : (a b : List (List ℕ)) (is : List NameId) → Begins a b → AreNumbers (length a) is → AreNumbers (length b) is
+numbers-grow a b [] g h = tt
+numbers-grow a b (i ∷ is) g h = (less-begins a b i.0 g h.0, numbers-grow a b is g h.1)
+
+pub numbers-end : (names : ℕ) (is : List NameId) (i : NameId) → AreNumbers names is → i.0 < names → AreNumbers names (is ++ i ∷ [])
+numbers-end names [] i h e = (e, tt)
+numbers-end names (j ∷ is) i h e = (h.0, numbers-end names is i h.1 e)
 
 -- ---- row 3
 
@@ -152,10 +163,15 @@ fresh-names : (texts : List (List ℕ)) (is : List NameId) (ns : List (List ℕ)
 fresh-names texts is ns true i n h e = AreNames-end texts is ns i n h e
 fresh-names texts is ns false i n h e = subst (λ (js : List NameId). AreNames texts js (ns ++ [])) (sym (append-nil is)) (subst (λ (ms : List (List ℕ)). AreNames texts is ms) (sym (append-nil ns)) h)
 
+fresh-numbers : (names : ℕ) (is : List NameId) (b : Bool) (i : NameId) → AreNumbers names is → i.0 < names → AreNumbers names (is ++ (if b then i ∷ [] else []))
+fresh-numbers names is true i h e = numbers-end names is i h e
+fresh-numbers names is false i h e = subst (λ (js : List NameId). AreNumbers names js) (sym (append-nil is)) h
+
 -- no names
 pub declared-none : (block owner : ℕ) (t : Tables) (v : Variables) → v.first.items ≡ [] → v.entries.items ≡ [] → v.hole ≡ false → DeclaredSoFar block owner t t [] v
 declared-none block owner t v news entries hole = record {
   moves = Moves-same block t;
+  there = subst (λ (is : List NameId). AreNumbers (length t.names.texts) is) (sym news) tt;
   place = λ out l place. place;
   first = λ out l place. subst (λ (is : List NameId). AreNames t.names.texts is []) (sym news) tt;
   entries = λ out l place. entries;
@@ -164,18 +180,21 @@ declared-none block owner t v news entries hole = record {
 
 -- one more name
 pub declared-name : (block : ℕ) (o : OwnerId) (t0 t1 t2 t3 : Tables) (ts : List Plain) (t : Plain) (v w : Variables) (id : NameId) (fresh twice : Bool) → is_hole t.kind ≡ false →
-    DeclaredSoFar block o.0 t0 t1 ts v → Keeps t1 t2 → number_of t2.names.texts (lowered t.word) ≡ Some id.0 →
+    DeclaredSoFar block o.0 t0 t1 ts v → Keeps t1 t2 → number_of t2.names.texts (lowered t.word) ≡ Some id.0 → id.0 < length t2.names.texts →
     ((out : Outside) (l : Local) → IsPlace t2 block o.0 out l → twice ≡ is_among l.passed (lowered t.word)) → ((out : Outside) (l : Local) → IsPlace t2 block o.0 out l → fresh ≡ is_new l (lowered t.word)) →
     ((out : Outside) (l : Local) (m : Meaning) → Declares (known t2) (lowered t.word) (record { class = class.Variable; owner = o; name = id; value = None; of = None; signature = None }) m →
     IsPlace t2 block o.0 out l → IsPlace t3 block o.0 out (define l (lowered t.word) m)) → Moves block t2 t3 → w.first.items ≡ v.first.items ++ (if fresh then id ∷ [] else []) →
     w.entries.items ≡ v.entries.items ++ twice_at (1 + length ts) twice t.word → w.hole ≡ v.hole → DeclaredSoFar block o.0 t0 t3 (ts ++ t ∷ []) w
-declared-name block o t0 t1 t2 t3 ts t v w id fresh twice no_hole so keeps is before new step moves news entries hole =
+declared-name block o t0 t1 t2 t3 ts t v w id fresh twice no_hole so keeps is within before new step moves news entries hole =
     let n = lowered t.word in
     let ns = names_of (forest_of ts) in
     let names : names_of (forest_of (ts ++ t ∷ [])) ≡ ns ++ n ∷ [] = names-end ts t ∙ named-one t no_hole ns in
     let here = λ (out : Outside) (l : Local) (place : IsPlace t0 block o.0 out l). IsPlace-kept t1 t2 block o.0 out (define_all l (all_as (untyped l) ns)) keeps (so.place out l place) in
     record {
       moves = Moves-then block t0 t1 t3 so.moves (Moves-then block t1 t2 t3 (Moves-kept block t1 t2 keeps) moves);
+      there = subst (λ (js : List NameId). AreNumbers (length t3.names.texts) js) (sym news)
+          (numbers-grow t2.names.texts t3.names.texts (v.first.items ++ (if fresh then id ∷ [] else [])) moves.grows.names
+          (fresh-numbers (length t2.names.texts) v.first.items fresh id (numbers-grow t1.names.texts t2.names.texts v.first.items keeps.grows.names so.there) within));
       place = λ out l place.
           let q = define_all l (all_as (untyped l) ns) in
           let at : IsPlace t2 block o.0 out q = here out l place in
@@ -215,6 +234,7 @@ declared-hole block owner t0 t1 ts t v w is so news entries hole =
     let names : names_of (forest_of (ts ++ t ∷ [])) ≡ ns = names-end ts t ∙ named-none t is ns in
     record {
       moves = so.moves;
+      there = subst (λ (js : List NameId). AreNumbers (length t1.names.texts) js) (sym news) so.there;
       place = λ out l place. subst (λ (ms : List (List ℕ)). IsPlace t1 block owner out (define_all l (all_as (untyped l) ms))) (sym names) (so.place out l place);
       first = λ out l place.
           subst (λ (js : List NameId). AreNames t1.names.texts js (new_names l (untyped l) (names_of (forest_of (ts ++ t ∷ []))))) (sym news)

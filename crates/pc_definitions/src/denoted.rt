@@ -15,7 +15,7 @@ use std::alloc::{AllocError, Global};
 /// The definition of the denoter that is the second kid of a node behind this name, given which kid of its list the node is, from 1,
 /// the number of the part that it stands in, and how often the name stood before in the block, if it did. Fails for want of memory, and
 /// where the number is 2^32 or more.
-pub(crate) fn definition(
+pub fn definition(
     alloc: Global,
     owner: OwnerId,
     naming: Naming,

@@ -12,7 +12,8 @@ mod types;
 mod variables;
 
 pub use constants::{constant_definition, constant_definitions};
+pub use denoted::definition;
 pub use naming::{Naming, enter, leave};
 pub use rows::{declaration, second_name};
-pub use types::{type_definition, type_definitions};
+pub use types::{before_at, next, type_definition, type_definitions};
 pub use variables::{Variables, enter_variables};

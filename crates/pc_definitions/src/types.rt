@@ -135,7 +135,7 @@ fn type_defined(
 }
 
 /// How often the name of the definition with this number stood before, by the list.
-pub(crate) fn before_at(before: &[u32], i: u32) -> u32
+pub fn before_at(before: &[u32], i: u32) -> u32
     ensures { result ≡ get_or before.now i 0 }
 {
     match before.get(i as usize) {
@@ -145,7 +145,7 @@ pub(crate) fn before_at(before: &[u32], i: u32) -> u32
 }
 
 /// The next number, if there is one.
-pub(crate) fn next(i: u32) -> Result<u32, AllocError>
+pub fn next(i: u32) -> Result<u32, AllocError>
     ensures { IfOk result (λ n. n ≡ i + 1) }
 {
     match i.checked_add(1) {

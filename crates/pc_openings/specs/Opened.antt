@@ -15,6 +15,7 @@ use Rattle.pc_rules.specs.RequiredMeanings.{required_or_missing}
 use Rattle.pc_rules.specs.Routines.{block_start}
 use Rattle.pc_facts.specs.Known.{Known}
 use Rattle.pc_facts.specs.declared.sighting.Declared.{Declared}
+use Rattle.pc_growth.specs.Grows.{Begins}
 use Rattle.pc_places.specs.declared.parameter.Parameter.{Parameter}
 use Rattle.pc_places.specs.declared.tables.Tables.{Tables}
 use Rattle.pc_places.specs.Parameters.{ShowsParameters, HaveNames}
@@ -54,6 +55,8 @@ pub record Carries (ds : List Declared) (block : ℕ) (ps : List Parameter) (man
 -- more names; the declarations of the parameters are to be ones under their names
 pub record Opens (around : List ℕ) (ps : List Parameter) (node : Option Plain) (block : ℕ) (old new : Tables) : Type 0 where
   pub number : block ≡ length old.names.chains
+  pub chains : new.names.chains ≡ old.names.chains ++ (length old.names.chains ∷ around) ∷ []
+  pub names : Begins old.names.texts new.names.texts
   pub types : new.types ≡ old.types
   pub declarations : new.declarations.items ≡ old.declarations.items
   pub signatures : new.signatures.items ≡ old.signatures.items

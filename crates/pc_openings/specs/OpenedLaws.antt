@@ -105,6 +105,8 @@ module _ (around : Option ℕ) (ps : List Parameter) (node : Option Plain) (bloc
   pub opens : Opens (chain_around old.names.chains around) ps node block old (record old { names = c })
   opens = record {
     number = number;
+    chains = chains-c;
+    names = grows-c.names;
     types = refl;
     declarations = refl;
     signatures = refl;
