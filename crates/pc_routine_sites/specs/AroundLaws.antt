@@ -1,5 +1,5 @@
 -- At a routine of a program: what names mean around its heading, and what is found there, lemmas.
-use Rattle.std.proofs.Common.{◌≡◌, ◌<◌, ℕ, Bool, true, false, not, ◌&&◌, ◌==◌, if◌then◌else◌, List, [], ◌∷◌, ◌++◌, length, get_or, inl, Option, Some, None, refl, ap, sym, ◌∙◌, subst}
+use Rattle.std.proofs.Common.{◌≡◌, ℕ, Bool, true, false, not, ◌&&◌, ◌==◌, List, [], ◌∷◌, length, get_or, inl, Option, Some, None, refl, ap, sym, ◌∙◌, subst}
 use Rattle.std.proofs.lemmas.Bool.{and_parts}
 use Rattle.pc_syntax.specs.Words.{is_among}
 use Rattle.pc_types.specs.Shapes.{Owner}
@@ -7,7 +7,7 @@ use Rattle.pc_types.specs.Table.{nobody}
 use Rattle.pc_names.specs.Bindings.{slot_in}
 use Rattle.pc_names.specs.declared.id.NameId.{NameId}
 use Rattle.pc_rules.specs.Declarations.{heading_here, is_later_declaration}
-use Rattle.pc_rules.specs.Headings.{entries_of_heading, heading_entries, signature_in}
+use Rattle.pc_rules.specs.Headings.{entries_of_heading, heading_entries}
 use Rattle.pc_rules.specs.Meanings.{Found, Local, Outside, find}
 use Rattle.pc_rules.specs.Outsides.{signature_named}
 use Rattle.pc_rules.specs.RoutineList.{routines_of}

@@ -1,13 +1,11 @@
 -- A routine that was declared in the block around it with its heading gone through: lemmas.
-use Rattle.std.proofs.Common.{◌≡◌, ◌<◌, ℕ, Bool, true, false, not, ◌&&◌, List, length, get_or, slice_get, Option, Some, refl, ap, sym, ◌∙◌, subst}
+use Rattle.std.proofs.Common.{◌≡◌, ◌<◌, ℕ, Bool, true, false, not, ◌&&◌, List, length, get_or, Option, refl, ap, sym, ◌∙◌, subst}
 use Rattle.std.specs.Str.{bytes_eq}
 use Rattle.pc_syntax.specs.Plain.{Plain}
 use Rattle.pc_syntax.specs.WellFormed.{IsProper}
-use Rattle.pc_types.specs.Shapes.{Owner}
 use Rattle.pc_types.specs.Table.{nobody}
 use Rattle.pc_types.specs.declared.form.OwnerId.{OwnerId}
 use Rattle.pc_names.specs.Table.{slot_named}
-use Rattle.pc_names.specs.declared.id.DeclarationId.{DeclarationId}
 use Rattle.pc_names.specs.declared.id.NameId.{NameId}
 use Rattle.pc_names.specs.declared.slot.Slot.{Slot}
 use Rattle.pc_scope.specs.Headings.{heading_of, is_routine_kind}
@@ -15,13 +13,12 @@ use Rattle.pc_rules.specs.Declarations.{heading_here, is_later_declaration}
 use Rattle.pc_rules.specs.Meanings.{Local, Outside}
 use Rattle.pc_environment.specs.Decorating.{place_behind}
 use Rattle.pc_facts.specs.Shows.{ShowsSignatures}
-use Rattle.pc_facts.specs.declared.sighting.Declared.{Declared}
 use Rattle.pc_growth.specs.GrowsLaws.{slice_get-begins}
 use Rattle.pc_places.specs.MovesLaws.{IsPlace-kept}
 use Rattle.pc_places.specs.Places.{known, IsPlace, IsNamed}
 use Rattle.pc_places.specs.declared.tables.Tables.{Tables}
 use Rattle.pc_headings.specs.declared.routine_heading.RoutineHeading.{RoutineHeading}
-use Rattle.pc_routines.specs.Bare.{bare_routine, AddsRoutine}
+use Rattle.pc_routines.specs.Bare.{bare_routine}
 use Rattle.pc_routines.specs.Heads.{ShowsHeadName, ShowsHead}
 use Rattle.pc_routines.specs.KeyLaws.{ShowsHeadName-grows}
 use Rattle.pc_routines.specs.declared.head.RoutineHead.{RoutineHead}

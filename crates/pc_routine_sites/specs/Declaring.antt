@@ -1,5 +1,5 @@
 -- A routine is declared in the block around it, with its parameters and its result.
-use Rattle.std.specs.Prelude.{◌≡◌, ◌&&◌, ℕ, Bool, true, false, not, List, Option, Some, None}
+use Rattle.std.specs.Prelude.{◌≡◌, ◌&&◌, ℕ, Bool, true, false, not, Option, Some, None}
 use Rattle.std.specs.Option.{is_some}
 use Rattle.pc_syntax.specs.Plain.{Plain}
 use Rattle.pc_syntax.specs.WellFormed.{IsProper}

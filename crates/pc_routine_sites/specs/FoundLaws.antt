@@ -1,89 +1,40 @@
 -- At a routine of a program: what was found is what the rules find, and the tables stand for the place behind it, lemmas.
-use Rattle.std.proofs.Common.{◌≡◌, ◌<◌, ℕ, Bool, true, false, not, ◌&&◌, List, [], ◌∷◌, ◌++◌, length, get_or, Option, Some, None, refl, ap, sym, ◌∙◌, subst, arith}
+use Rattle.std.proofs.Common.{◌≡◌, ◌<◌, ℕ, Bool, true, false, List, [], ◌∷◌, ◌++◌, length, get_or, Option, Some, None, refl, ap, sym, ◌∙◌, subst, arith}
 use Rattle.pc_types.specs.Shapes.{Owner, Keyed, Placed}
 use Rattle.pc_types.specs.Table.{nobody}
 use Rattle.pc_types.specs.declared.form.OwnerId.{OwnerId}
 use Rattle.pc_names.specs.Chains.{chain_of}
-use Rattle.pc_names.specs.Finding.{FindsAs, FindsAlong}
-use Rattle.pc_names.specs.FindingLaws.{FindsAlong-find}
-use Rattle.pc_names.specs.Table.{Table, slot_named, found_named}
+use Rattle.pc_names.specs.Table.{Table, slot_named}
 use Rattle.pc_rules.specs.Declarations.{heading_here}
-use Rattle.pc_rules.specs.Meanings.{Meaning, Found, Local, find}
-use Rattle.pc_rules.specs.Outsides.{signature_named, outside_of}
-use Rattle.pc_rules.specs.Places.{past_routine}
-use Rattle.pc_rules.specs.RequiredMeanings.{required_or_missing}
+use Rattle.pc_rules.specs.Meanings.{Local}
+use Rattle.pc_rules.specs.Outsides.{signature_named}
 use Rattle.pc_rules.specs.RoutineList.{key_of, forwarded_by, routines_of}
-use Rattle.pc_rules.specs.Routines.{Routine, bare, parameters_of}
+use Rattle.pc_rules.specs.Routines.{bare, parameters_of}
 use Rattle.pc_environment.specs.Decorating.{attributes_at}
 use Rattle.pc_growth.specs.GrowsLaws.{less-begins}
 use Rattle.pc_places.specs.MovesLaws.{IsPlace-begun}
 use Rattle.pc_places.specs.Parameters.{ShowsParameters, AreNamed, HaveNames}
-use Rattle.pc_places.specs.Places.{known, IsPlace}
-use Rattle.pc_places.specs.SceneLaws.{ShowsUnsigned-with_signature}
-use Rattle.pc_places.specs.Scenes.{ShowsUnsigned}
+use Rattle.pc_places.specs.Places.{known}
 use Rattle.pc_places.specs.declared.parameter.Parameter.{Parameter}
-use Rattle.pc_places.specs.declared.tables.Tables.{Tables}
 use Rattle.pc_routines.specs.Bare.{bare_routine}
 use Rattle.pc_routines.specs.BesideLaws.{waiting-beside}
 use Rattle.pc_routines.specs.ForwardedLaws.{Waits-grows}
 use Rattle.pc_routines.specs.HeadsLaws.{ShowsHead-grows}
-use Rattle.pc_routines.specs.Heads.{ShowsHead}
 use Rattle.pc_routines.specs.Waits.{Gives, Waits}
 use Rattle.pc_routines.specs.declared.forward.Forward.{Forward}
-use Rattle.pc_standing.specs.OutsideLaws.{IsPlace-outside, means-inside}
-use Rattle.pc_standing.specs.OwnsLaws.{owns-behind}
-use Rattle.pc_standing.specs.Signed.{IsSigned, OwnsRoutines}
 use Rattle.pc_standing.specs.SigningLaws.{SignsBlock, SignsBlocks, SignsBlock-kept, SignsBlocks-under}
-use Rattle.pc_routine_sites.specs.AroundLaws.{visit-behind, visit-means, visit-entries, visit-signature}
+use Rattle.pc_routine_sites.specs.AroundLaws.{visit-behind, visit-entries, visit-signature}
 use Rattle.pc_routine_sites.specs.BehindLaws.{behind-is}
 use Rattle.pc_routine_sites.specs.DeclaredLaws.{declared-signs}
 use Rattle.pc_routine_sites.specs.Identities.{IsForward}
-use Rattle.pc_routine_sites.specs.ParametersLaws.{visit-parameters, visit-named, visit-have_names, visit-self, visit-key_is}
+use Rattle.pc_routine_sites.specs.ParametersLaws.{visit-parameters, visit-named, visit-have_names, visit-key_is}
 use Rattle.pc_routine_sites.specs.SiteLaws.{visit-facts, visit-head, visit-owned, visit-visits, visit-apart, visit-among, visit-owner_is, visit-there}
-use Rattle.pc_routine_sites.specs.Sites.{Sound, StandsAround, SiteFound, behind_routine}
+use Rattle.pc_routine_sites.specs.Sites.{Sound, SiteFound, behind_routine}
+use Rattle.pc_routine_sites.specs.StandsLaws.{visit-owns, visit-stands}
 use Rattle.pc_routine_sites.specs.Steps.{Visit}
 use Rattle.pc_routine_sites.specs.VisitsLaws.{chain-visited}
 
 module _ (c : Visit) where
-  abbrev all : List Routine
-  all = routines_of c.t
-
-  abbrev place : Local
-  place = behind_routine c.outer c.l c.node
-
-  -- ---- what names mean behind it
-
-  visit-owns : OwnsRoutines c.outer.owner place.known
-  visit-owns =
-      subst (λ (m : Local). OwnsRoutines c.outer.owner m.known) (sym (behind-is c.outer c.l c.node c.routine))
-      (owns-behind c.outer.owner (bare c.outer.means) c.l (bare_routine c.node) (c.next.owner, c.next.owns)).1
-
-  outside : IsPlace c.new c.block c.around.0 (outside_of all c.outer) place
-  outside = IsPlace-outside c.new c.block c.around.0 all c.outer place (visit-behind c)
-
-  visit-finds : FindsAlong (ShowsUnsigned (known c.new) c.new.declarations.items) required_or_missing c.new.names (chain_of c.new.names.chains c.block) (outside_of all c.r).means
-  visit-finds =
-      let S = ShowsUnsigned (known c.new) c.new.declarations.items in
-      let out = outside_of all c.outer in
-      let along = FindsAlong-find S S required_or_missing c.new.names c.block outside.outer out place (λ n d m. ShowsUnsigned-with_signature (known c.new) c.new.declarations.items out n d m) outside.own outside.around
-      outside.closed in
-      subst (λ (bs : List ℕ). FindsAlong S required_or_missing c.new.names bs (outside_of all c.r).means) (sym outside.chain)
-      (λ n. subst (λ (g : Found). FindsAs S (required_or_missing n) (found_named c.new.names (c.block ∷ outside.outer) n) g)
-      (sym (means-inside all c.outer c.r place outside.closed visit-owns (visit-means c) n)) (along n))
-
-  pub visit-stands : StandsAround all c.r c.new (chain_of c.new.names.chains c.block) c.f.site
-  visit-stands = record {
-    finds = visit-finds;
-    owner_is = visit-owner_is c;
-    there = visit-there c;
-    parameters = visit-parameters c;
-    are_named = visit-named c;
-    have_names = visit-have_names c;
-    self = visit-self c;
-    key = visit-key_is c;
-    place = c.went.place ∙ c.at_is ∙ sym (ap (λ (q : Routine). q.place) c.next.is);
-  }
-
   -- ---- the forward routines that wait behind it
 
   keyed : (o : Owner) (k : List (List ℕ)) → key_of o ≡ Some k → o ≡ Keyed k
@@ -106,7 +57,7 @@ module _ (c : Visit) where
   gives-by false (Some g) h = absurd h
   gives-by true None h = absurd h
 
-  visit-waits : Waits c.new c.v place.waiting (forwarded_by c.l c.r c.fs)
+  visit-waits : Waits c.new c.v (behind_routine c.outer c.l c.node).waiting (forwarded_by c.l c.r c.fs)
   visit-waits =
       let k = visit-visits c in
       let a = attributes_at (bare c.outer.means) c.l (bare_routine c.node) in
@@ -117,48 +68,48 @@ module _ (c : Visit) where
 
   -- ---- the tables behind it
 
-  signs : SignsBlocks c.old (signature_named all) (c.block ∷ c.before.place.outer)
-  signs = subst (SignsBlocks c.old (signature_named all)) c.before.place.chain c.before.sound.signed
+  signs : SignsBlocks c.old (signature_named (routines_of c.t)) (c.block ∷ c.before.place.outer)
+  signs = subst (SignsBlocks c.old (signature_named (routines_of c.t))) c.before.place.chain c.before.sound.signed
 
-  owned-signs : SignsBlock c.went.owned (signature_named all) c.block
+  owned-signs : SignsBlock c.went.owned (signature_named (routines_of c.t)) c.block
   owned-signs =
       let k = visit-owned c in
-      SignsBlock-kept c.old c.went.owned (signature_named all) c.block k.grows k.declarations (λ n. ap (λ (t : Table). slot_named t c.block n) c.went.names) c.before.sound.named signs.0
+      SignsBlock-kept c.old c.went.owned (signature_named (routines_of c.t)) c.block k.grows k.declarations (λ n. ap (λ (t : Table). slot_named t c.block n) c.went.names) c.before.sound.named signs.0
 
-  here-signs : SignsBlock c.new (signature_named all) c.block
+  here-signs : SignsBlock c.new (signature_named (routines_of c.t)) c.block
   here-signs =
       let k = visit-visits c in
-      declared-signs c.block c.around c.f.site.owner c.x c.went.facts.later c.node c.went.head c.went.owned c.new c.went.declares (heading_here c.l).name (visit-head c).name (signature_named all)
+      declared-signs c.block c.around c.f.site.owner c.x c.went.facts.later c.node c.went.head c.went.owned c.new c.went.declares (heading_here c.l).name (visit-head c).name (signature_named (routines_of c.t))
       ((visit-owned c).named c.before.sound.named) owned-signs (less-begins (known c.old).table.owners (known c.new).table.owners c.around.0 k.grows.owners c.before.place.there)
       (λ e. visit-signature c e)
 
-  around-signs : SignsBlocks c.new (signature_named all) c.before.place.outer
+  around-signs : SignsBlocks c.new (signature_named (routines_of c.t)) c.before.place.outer
   around-signs =
       let k = visit-visits c in
       let begun = IsPlace-begun c.old c.block c.around.0 (bare c.outer.means) c.l c.before.place in
-      SignsBlocks-under c.block c.old c.new (signature_named all) c.before.place.outer c.before.place.below k.grows k.declarations (λ b less n. k.others b n (omega arith) (λ e. omega arith)) c.before.sound.named
+      SignsBlocks-under c.block c.old c.new (signature_named (routines_of c.t)) c.before.place.outer c.before.place.below k.grows k.declarations (λ b less n. k.others b n (omega arith) (λ e. omega arith)) c.before.sound.named
       signs.1
 
-  visit-sound : Sound all (c.done ++ c.r ∷ []) c.new (chain_of c.new.names.chains c.block)
+  visit-sound : Sound (routines_of c.t) (c.done ++ c.r ∷ []) c.new (chain_of c.new.names.chains c.block)
   visit-sound =
       let k = visit-visits c in
       record {
         distinct = k.distinct c.before.sound.distinct;
         named = k.named c.before.sound.named;
-        signed = subst (SignsBlocks c.new (signature_named all)) (sym (chain-visited c.old.names.chains c.new.names.chains c.block c.block c.before.place.outer k.chains c.before.place.chain))
+        signed = subst (SignsBlocks c.new (signature_named (routines_of c.t))) (sym (chain-visited c.old.names.chains c.new.names.chains c.block c.block c.before.place.outer k.chains c.before.place.chain))
             (here-signs, around-signs);
         apart = visit-apart c;
         owners = visit-among c;
       }
 
   -- what was found at it
-  pub visit-found : SiteFound all c.outer c.r c.done c.l c.fs c.block c.around.0 c.node c.f c.new c.v
+  pub visit-found : SiteFound (routines_of c.t) c.outer c.r c.done c.l c.fs c.block c.around.0 c.node c.f c.new c.v
   visit-found = record {
     entries = c.went.entries ∙ (visit-facts c).entries;
     heading = visit-entries c;
     place = visit-behind c;
-    owns = visit-owns;
+    owns = visit-owns c;
     waits = visit-waits;
     sound = visit-sound;
-    stands = visit-stands;
+    stands = visit-stands c;
   }

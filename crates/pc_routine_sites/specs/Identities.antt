@@ -1,6 +1,6 @@
 -- A routine as an owner: its key and its number, and what it has from a forward one and gives to a later declaration.
-use Rattle.std.specs.Prelude.{◌≡◌, ◌<◌, ◌&&◌, nat_lt, ℕ, Bool, true, false, if◌then◌else◌, List, [], ◌∷◌, ◌++◌, Option, Some, None, option_map, slice_get, length}
-use Rattle.std.specs.Option.{is_some, option_and_then}
+use Rattle.std.specs.Prelude.{◌≡◌, ◌&&◌, nat_lt, ℕ, Bool, true, false, if◌then◌else◌, List, [], ◌∷◌, ◌++◌, Option, Some, None, option_map, slice_get, length}
+use Rattle.std.specs.Option.{is_some}
 use Rattle.pc_syntax.specs.declared.kind.Kind.{Kind}
 use Rattle.pc_types.specs.Growth.{AddsOwner}
 use Rattle.pc_types.specs.Shapes.{Owner}

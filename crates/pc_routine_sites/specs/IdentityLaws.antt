@@ -1,10 +1,9 @@
 -- A routine as an owner: its key and its number are those of the rules, lemmas.
-use Rattle.std.proofs.Common.{◌≡◌, ◌<◌, ℕ, Bool, true, false, not, ◌&&◌, ◌==◌, if◌then◌else◌, List, [], ◌∷◌, ◌++◌, length, get_or, Option, Some, None, refl, ap, sym, ◌∙◌, subst, arith, true≢false}
+use Rattle.std.proofs.Common.{◌≡◌, ◌<◌, ℕ, Bool, true, false, not, ◌&&◌, ◌==◌, if◌then◌else◌, List, [], ◌∷◌, ◌++◌, length, get_or, Option, Some, None, refl, ap, sym, ◌∙◌, arith, true≢false}
 use Rattle.std.proofs.lemmas.Bool.Decides.{nat_tests}
 use Rattle.std.specs.Option.{is_some, option_and_then, option_map}
 use Rattle.std.specs.Prelude.{nat_lt}
 use Rattle.pc_syntax.specs.Words.{is_among}
-use Rattle.pc_types.specs.Shapes.{Keyed}
 use Rattle.pc_types.specs.Table.{nobody}
 use Rattle.pc_types.specs.declared.form.OwnerId.{OwnerId}
 use Rattle.pc_names.specs.TableLaws.{slice_get-number_of}

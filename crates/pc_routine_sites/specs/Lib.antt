@@ -14,4 +14,6 @@ pub mod IdentityLaws
 pub mod SiteLaws
 pub mod AroundLaws
 pub mod ParametersLaws
+pub mod StandsLaws
 pub mod FoundLaws
+pub mod DomainsLaws

@@ -1,7 +1,7 @@
 -- At a routine of a program: its parameters, and the function that it is, lemmas.
-use Rattle.std.proofs.Common.{◌≡◌, ◌<◌, ℕ, Bool, true, false, ◌&&◌, if◌then◌else◌, List, [], ◌∷◌, length, get_or, Option, Some, None, refl, ap, sym, ◌∙◌, subst, true≢false}
+use Rattle.std.proofs.Common.{◌≡◌, ◌<◌, ℕ, Bool, true, false, ◌&&◌, if◌then◌else◌, List, [], length, get_or, Option, Some, None, refl, ap, sym, ◌∙◌, subst, true≢false}
 use Rattle.std.specs.Option.{is_some, option_map, option_map_or}
-use Rattle.pc_types.specs.Shapes.{Owner, Keyed, Placed}
+use Rattle.pc_types.specs.Shapes.{Owner}
 use Rattle.pc_types.specs.Table.{nobody}
 use Rattle.pc_types.specs.declared.form.OwnerId.{OwnerId}
 use Rattle.pc_names.specs.TableLaws.{slice_get-number_of}
@@ -9,7 +9,7 @@ use Rattle.pc_names.specs.declared.id.NameId.{NameId}
 use Rattle.pc_scope.specs.Headings.{is_function_kind}
 use Rattle.pc_rules.specs.Declarations.{heading_here}
 use Rattle.pc_rules.specs.Meanings.{Meaning}
-use Rattle.pc_rules.specs.RoutineList.{Forwarded, forwarded_for, key_of, owner_of}
+use Rattle.pc_rules.specs.RoutineList.{Forwarded, forwarded_for, key_of}
 use Rattle.pc_rules.specs.Routines.{Routine, firsts, heading_marks, params_in, parameters_of, self_of}
 use Rattle.pc_access_rules.specs.Selves.{ShowsSelf}
 use Rattle.pc_facts.specs.Known.{Known}
@@ -20,13 +20,13 @@ use Rattle.pc_places.specs.ParametersLaws.{ShowsParameters-grows, AreNamed-shown
 use Rattle.pc_places.specs.Places.{known}
 use Rattle.pc_places.specs.declared.parameter.Parameter.{Parameter}
 use Rattle.pc_places.specs.declared.tables.Tables.{Tables}
-use Rattle.pc_routines.specs.Heads.{ShowsHeadName, ShowsHead, found_at}
+use Rattle.pc_routines.specs.Heads.{ShowsHeadName, found_at}
 use Rattle.pc_routines.specs.HeadsLaws.{number-shown, ShowsHead-grows}
 use Rattle.pc_routines.specs.Waits.{ShowsForwarded, waiting_at}
 use Rattle.pc_routines.specs.declared.forward.Forward.{Forward}
 use Rattle.pc_routine_sites.specs.AroundLaws.{visit-around, visit-marks, visit-kind, visit-late}
 use Rattle.pc_routine_sites.specs.Identities.{own_function, waiting_parameters}
-use Rattle.pc_routine_sites.specs.IdentityLaws.{key_in, key-named, key_of-owner}
+use Rattle.pc_routine_sites.specs.IdentityLaws.{key-named, key_of-owner}
 use Rattle.pc_routine_sites.specs.SiteLaws.{visit-key, visit-forward, visit-owner, visit-visits}
 use Rattle.pc_routine_sites.specs.Steps.{Visit}
 

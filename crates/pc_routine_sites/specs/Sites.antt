@@ -1,5 +1,5 @@
 -- What is found at a routine in the block around it, and what the tables say where its own block begins (ISO 7185, 6.2.2, 6.6.1, 6.6.2).
-use Rattle.std.specs.Prelude.{◌≡◌, ◌<◌, ◌&&◌, ℕ, Bool, true, false, List, [], ◌∷◌, ◌++◌, Option, length, get_or}
+use Rattle.std.specs.Prelude.{◌≡◌, ◌<◌, ◌&&◌, ℕ, true, false, List, [], ◌∷◌, ◌++◌, Option, length, get_or}
 use Rattle.pc_syntax.specs.Plain.{Plain}
 use Rattle.pc_syntax.specs.WellFormed.{IsProper}
 use Rattle.pc_types.specs.Sameness.{same_owner}

@@ -1,12 +1,9 @@
 -- A routine is told again with its signature: the tables stand for the place for which they stood, lemmas.
-use Rattle.std.proofs.Common.{◌≡◌, ℕ, Bool, true, false, if◌then◌else◌, List, [], ◌∷◌, slice_get, Option, Some, None, refl, ap, sym, ◌∙◌, subst, true≢false}
+use Rattle.std.proofs.Common.{◌≡◌, ℕ, Bool, true, false, if◌then◌else◌, List, slice_get, Option, Some, None, refl, ap, sym, ◌∙◌, subst, true≢false}
 use Rattle.std.proofs.lemmas.Slice.Eq.{bytes_eq-Decides}
 use Rattle.std.specs.Str.{bytes_eq}
 use Rattle.pc_types.specs.declared.form.OwnerId.{OwnerId}
-use Rattle.pc_names.specs.Bindings.{slot_in, retold}
-use Rattle.pc_names.specs.Numbers.{number_of}
 use Rattle.pc_names.specs.Standing.{meant, IsKnown}
-use Rattle.pc_names.specs.Table.{slot_named}
 use Rattle.pc_names.specs.TableLaws.{slice_get-number_of}
 use Rattle.pc_names.specs.declared.id.DeclarationId.{DeclarationId}
 use Rattle.pc_names.specs.declared.id.NameId.{NameId}

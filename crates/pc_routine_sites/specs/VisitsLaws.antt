@@ -1,7 +1,6 @@
 -- How the tables change where routines are gone through, one change after the other, and the places for which they stand behind: lemmas.
 use Rattle.std.proofs.Common.{◌≡◌, ◌<◌, ◌≤◌, ◌⊎◌, inl, inr, ℕ, List, [], ◌∷◌, Option, Some, None, length, slice_get, refl, ap, sym, ◌∙◌, subst, arith, append-nil}
 use Rattle.std.specs.Option.{unwrap_or}
-use Rattle.pc_types.specs.Growth.{AddsOwner}
 use Rattle.pc_types.specs.Rows.{seen}
 use Rattle.pc_types.specs.Shapes.{Owner}
 use Rattle.pc_types.specs.Table as types
@@ -12,11 +11,10 @@ use Rattle.pc_names.specs.Standing.{StandsFor}
 use Rattle.pc_names.specs.Table.{Table, slot_named}
 use Rattle.pc_rules.specs.Meanings.{Local, Outside}
 use Rattle.pc_facts.specs.declared.sighting.Declared.{Declared}
-use Rattle.pc_growth.specs.Grows.{Begins, Grows}
-use Rattle.pc_growth.specs.GrowsLaws.{Begins-same, Begins-then, Grows-then, less-begins, slice_get-begins}
+use Rattle.pc_growth.specs.Grows.{Begins}
+use Rattle.pc_growth.specs.GrowsLaws.{Begins-then, Grows-then, less-begins, slice_get-begins}
 use Rattle.pc_places.specs.ChangesLaws.{Changes-moved}
 use Rattle.pc_places.specs.MovesLaws.{IsPlace-begun, IsPlace-changed, Moves-kept, Moves-same, own-kept}
-use Rattle.pc_places.specs.NamingLaws.{IsNamed-begins}
 use Rattle.pc_places.specs.Places.{known, IsPlace, IsNamed, Changes, Moves, Keeps}
 use Rattle.pc_places.specs.Scenes.{ShowsUnsigned}
 use Rattle.pc_places.specs.declared.tables.Tables.{Tables}

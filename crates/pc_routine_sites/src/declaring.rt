@@ -1,6 +1,6 @@
 //! A routine is declared in the block around it, with its parameters and its result.
 
-ghost use Rattle.std.specs.Prelude.{◌≡◌, ◌<◌, length, true, not, ◌&&◌, IfOk, OnOk};
+ghost use Rattle.std.specs.Prelude.{◌≡◌, ◌<◌, length, true, IfOk, OnOk};
 ghost use Rattle.std.specs.Option.{ForSome};
 ghost use Rattle.pc_scope.specs.Headings.{is_routine_kind};
 ghost use Rattle.pc_places.specs.Places.{known, Moves};

@@ -1,6 +1,6 @@
 //! A routine as an owner.
 
-ghost use Rattle.std.specs.Prelude.{◌≡◌, ◌<◌, ◌∷◌, ◌++◌, [], length, option_copied, unwrap_or, IfOk};
+ghost use Rattle.std.specs.Prelude.{◌≡◌, ◌<◌, length, option_copied, unwrap_or, IfOk};
 ghost use Rattle.std.specs.Option.{ForSome};
 ghost use Rattle.pc_types.specs.Rows.{seen};
 ghost use Rattle.pc_rules.specs.RoutineList.{owner_of};

@@ -7,6 +7,7 @@ ghost use Rattle.pc_scope.specs.Headings.{is_routine_kind};
 ghost use Rattle.pc_rules.specs.Meanings.{Local};
 ghost use Rattle.pc_rules.specs.RoutineList.{Forwarded, key_of, routines_of};
 ghost use Rattle.pc_rules.specs.Routines.{Routine};
+ghost use Rattle.pc_growth.specs.Grows.{Begins};
 ghost use Rattle.pc_places.specs.Places.{known};
 ghost use Rattle.pc_routine_sites.specs.Sites.{IsNext, StandsBefore, SiteFound};
 ghost use Rattle.pc_routine_sites.specs.Visits.{Visits};
@@ -46,6 +47,7 @@ pub fn routine_site(
     ensures found { IfOk result (λ f. (t : Plain) (ro r : Routine) (done beyond : List Routine) (l : Local) (fs : List Forwarded) → IsNext t ro r done beyond l fs list.now node.now → number ≡ l.kid → option_copied key.entry ≡ key_of ro.owner → StandsBefore (routines_of t) ro done l fs block.0 owner.0 head.now tables.old waiting.old → SiteFound (routines_of t) ro r done l fs block.0 owner.0 node.now f tables.new waiting.new) }
     ensures near { IfOk result (λ f. f.site.near ≡ unwrap_or f.site.key near.now) }
     ensures visits { OnOk result (Visits block.0 tables.old tables.new) }
+    ensures domains { OnOk result (Begins (known tables.old).table.domains (known tables.new).table.domains) }
 {
     let facts = routine(alloc, tables, block, head, waiting, node)?;
     let place = list.child(alloc, number)?;

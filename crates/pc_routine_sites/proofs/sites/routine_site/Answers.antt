@@ -1,6 +1,7 @@
 use Rattle.std.proofs.Common.{ℕ, List, [], ◌∷◌, ◌++◌, refl, ap, ◌∙◌, subst}
 use Rattle.std.specs.Prelude.{option_copied}
 use Rattle.pc_places.specs.declared.parameter.Parameter.{Parameter}
+use Rattle.pc_routine_sites.specs.DomainsLaws.{routine-domains}
 use Rattle.pc_routine_sites.specs.FoundLaws.{visit-found}
 use Rattle.pc_routine_sites.specs.Identities.{own_function, IsForward}
 use Rattle.pc_routine_sites.specs.SiteLaws.{routine-visits}
@@ -82,4 +83,5 @@ returns c =
       });
       near = c.in_ok-identity.ensures.near;
       visits = routine-visits c.args.block.0 c.args.owner given at x node old new c.args.waiting.now c.pass.new.self f went;
+      domains = routine-domains c.args.block.0 c.args.owner given at x node old new c.args.waiting.now c.pass.new.self f went;
     }
