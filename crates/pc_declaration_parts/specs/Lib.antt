@@ -1,0 +1,10 @@
+pub mod Blocks
+pub mod Turning
+pub mod CarriedLaws
+pub mod Telling
+pub mod FirstNames
+pub mod NamesLaws
+pub mod DenoterPlaces
+pub mod VariableTurns
+pub mod RowTurns
+pub mod PartsLaws
