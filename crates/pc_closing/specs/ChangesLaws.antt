@@ -47,11 +47,11 @@ pub changes-by : (flags : List Bool) (i : ℕ) (part : Option TypeId) (fields : 
     m3 ≡ marks_to flags to i m2 → Changes us u3 m m3
 changes-by flags i part fields to us u1 u2 u3 m m1 m2 m3 ue me uf mf ut mt =
     let first : Changes us u1 m m1 = subst (λ (v : List (List ℕ)). Changes us v m m1) (sym ue)
-        (subst (λ (n : Marks). Changes us (users_if flags part i us) m n) (sym me) (if-changes flags part i us m)) in
+    (subst (λ (n : Marks). Changes us (users_if flags part i us) m n) (sym me) (if-changes flags part i us m)) in
     let second : Changes u1 u2 m1 m2 = subst (λ (v : List (List ℕ)). Changes u1 v m1 m2) (sym uf)
-        (subst (λ (n : Marks). Changes u1 (users_all flags fields i u1) m1 n) (sym mf) (all-changes flags fields i u1 m1)) in
+    (subst (λ (n : Marks). Changes u1 (users_all flags fields i u1) m1 n) (sym mf) (all-changes flags fields i u1 m1)) in
     let third : Changes u2 u3 m2 m3 = subst (λ (v : List (List ℕ)). Changes u2 v m2 m3) (sym ut)
-        (subst (λ (n : Marks). Changes u2 (users_to flags to i u2) m2 n) (sym mt) (to-changes flags to i u2 m2)) in
+    (subst (λ (n : Marks). Changes u2 (users_to flags to i u2) m2 n) (sym mt) (to-changes flags to i u2 m2)) in
     changes-through us u2 u3 m m2 m3 (changes-through us u1 u2 m m1 m2 first second) third
 
 -- what was noted counts each type that was found once
