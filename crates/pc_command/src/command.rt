@@ -33,4 +33,6 @@ pub enum ViewName {
     Syntax,
     /// The nodes of its tree, a line for each (the word is `tree`).
     Nodes,
+    /// Its errors, a line for each.
+    Errors,
 }

@@ -7,6 +7,7 @@
 
 mod accepted;
 mod editing;
+mod error_list;
 mod history;
 mod laws;
 mod load;

@@ -9,6 +9,7 @@ ghost use Rattle.pc_session.specs.Trees.{IsProgram, Trees, edited};
 
 use crate::accepted::Accepted;
 use crate::editing::{with_added_template, with_template, with_text, without_node};
+use crate::error_list::error_list;
 use crate::history::History;
 use crate::load::{program_of, with_range};
 use crate::made::Made;
@@ -229,6 +230,7 @@ impl Session {
         match name {
             ViewName::Syntax => print(alloc, self.tree()),
             ViewName::Nodes => tree_view(alloc, self.tree()),
+            ViewName::Errors => error_list(alloc, self.tree()),
         }
     }
 
