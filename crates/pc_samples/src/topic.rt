@@ -33,7 +33,7 @@ pub enum Topic {
 
 impl Topic {
     /// The files with their topics.
-    pub const FILES: [(&'static str, Topic); 20] = [
+    pub const FILES: [(&'static str, Topic); 21] = [
         ("words.txt", Topic::Words),
         ("templates.txt", Topic::Words),
         ("lexing.txt", Topic::Lexing),
@@ -53,6 +53,7 @@ impl Topic {
         ("scripts.txt", Topic::Scripts),
         ("loading.txt", Topic::Scripts),
         ("editing.txt", Topic::Scripts),
+        ("errors.txt", Topic::Scripts),
         ("faults.txt", Topic::Faults),
     ];
 }
