@@ -9,7 +9,7 @@ use pc_resolve::errors;
 use pc_syntax::Tree;
 use std::alloc::{AllocError, Global};
 
-/// The text of the view `errors` of a program: a line for each entry of its error list. Fails for want of memory only.
+/// The text of the view `errors` of a program: a line for each entry of its error list. Fails where `errors` does.
 #[tactic(auto, unfolding(pc_decl::specs::ErrorsText::errors_text))]
 pub fn error_list(alloc: Global, tree: &Tree) -> Result<Vec<u8>, AllocError>
     ensures { IfOk result (λ text. text.items ≡ limited (errors_text tree.now)) }

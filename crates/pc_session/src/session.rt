@@ -216,7 +216,7 @@ impl Session {
         }
     }
 
-    /// The text of a view. Only memory can fail.
+    /// The text of a view. Only memory can fail, and for that of the errors also the resolver where it has no more numbers.
     pub fn show<L: Ledger>(
         &mut self,
         alloc: Global,
