@@ -6,7 +6,7 @@ use Rattle.std.proofs.lemmas.Option.{slice_get_cases}
 use Rattle.std.specs.Option.{option_copied}
 use Rattle.std.proofs.Math.Seq.{get_or-append_seam}
 use Rattle.pc_types.specs.Shapes.{Owner, Definition, Shape, NoMembers, SubrangeType, ArrayType, RecordType, SetType, MembersType, FieldOf}
-use Rattle.pc_types.specs.Table.{Table, Place, definition_in, place_of, numbered, formed, fields_from, shape_at, PartsThere, FieldsThere}
+use Rattle.pc_types.specs.Table.{Table, Place, definition_in, place_of, numbered, formed, fields_from, shape_at, PartsThere, FieldsThere, IsFormOf}
 use Rattle.pc_types.specs.Outlines.{outline_of}
 use Rattle.pc_types.specs.Sizes.{cells, levels}
 use Rattle.pc_types.specs.Outlined.{IsOutline}
@@ -138,6 +138,10 @@ stands-row k i r h is =
           (subst (λ (n : ℕ). PartsThere (length b.before) n r.form) (length-map k.domains (row_place (kept_owners k)) ∙ sym (length-map k.domains (row_domain (kept_owners k) (kept_shapes k)))) small);
       owner = b.row.owner;
     }
+
+-- the form of a row is that of its number
+pub form_row : (table : Table) (i : TypeId) (r : Row) → StandsFor table i r → IsFormOf table i r.form
+form_row table i r h = record { definition = r.definition; there = h.there; shape = h.shape; parts = h.parts }
 
 -- the outline of a row tells of the shape at its number
 pub outline-row : (table : Table) (i : TypeId) (r : Row) → StandsFor table i r → IsOutline table (operand.Id i) (outline_of r.form) (shape_at table (operand.Id i))

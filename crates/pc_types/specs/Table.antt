@@ -97,6 +97,13 @@ pub record IsReady (table : Table) (f : Form) (d : Written) : Type 0 where
   pub parts : PartsThere (length table.shapes) (length table.domains) f
   pub owner : d.owner.0 < length table.owners
 
+-- the form of the type with a number: with some definition it is the type's shape, and its parts stand before it
+pub record IsFormOf (table : Table) (i : TypeId) (f : Form) : Type 0 where
+  pub definition : Written
+  pub there : i.0 < length table.shapes
+  pub shape : numbered table.shapes i ≡ shape_in table definition f
+  pub parts : PartsThere i.0 (length table.domains) f
+
 -- the type of an expression is there
 abbrev pub IsThere : Table → Operand → Type 0
 IsThere table (operand.Id i) = i.0 < length table.shapes

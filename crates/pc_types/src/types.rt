@@ -3,7 +3,7 @@
 ghost use Rattle.std.specs.Prelude.{◌≡◌, MatchOption, get_or, length};
 ghost use Rattle.pc_types.specs.Shapes.{NoMembers};
 ghost use Rattle.pc_types.specs.Rows.{seen, seen_owner, row_place, StandsFor};
-ghost use Rattle.pc_types.specs.Table.{shape_at, numbered, nobody, nowhere, place_at, IsThere, HasRequired};
+ghost use Rattle.pc_types.specs.Table.{shape_at, numbered, nobody, nowhere, place_at, IsThere, IsFormOf, HasRequired};
 ghost use Rattle.pc_types.specs.Outlined.{IsOutline, OutlineThere};
 
 use crate::form::{Definition, DomainId, Form, OwnerId, TypeId};
@@ -55,6 +55,17 @@ impl Types {
         ensures { MatchOption result (numbered (seen self.now).shapes id ≡ NoMembers) (λ r. StandsFor (seen self.now) id r.now) }
     {
         at(&self.rows, id.0 as usize)
+    }
+
+    /// What the type with this number is, with its parts by their numbers, if there is one.
+    #[tactic(auto, using(crate::proofs::RowsLaws::form_row))]
+    pub fn form(&self, id: TypeId) -> Option<&Form>
+        ensures { MatchOption result (numbered (seen self.now).shapes id ≡ NoMembers) (λ f. IsFormOf (seen self.now) id f.now) }
+    {
+        match self.row(id) {
+            Some(row) => Some(&row.form),
+            None => None,
+        }
     }
 
     /// The owner at the number, if there is one.
