@@ -2,3 +2,4 @@ pub mod Names
 pub mod Rows
 pub mod Constants
 pub mod Types
+pub mod Operands

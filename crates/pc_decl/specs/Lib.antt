@@ -11,6 +11,7 @@ pub mod TypeAt
 pub mod TypeText
 pub mod AgreesLaws
 pub mod Pieces
+pub mod FormText
 pub mod Structures
 pub mod StructuresLaws
 pub mod Shown

@@ -30,7 +30,7 @@ pub(crate) fn push_constant(
 }
 
 /// Adds the number in decimal digits, with a `-` where it is below 0.
-fn push_decimal(alloc: Global, text: &mut Vec<u8>, number: i64) -> Result<(), AllocError>
+pub(crate) fn push_decimal(alloc: Global, text: &mut Vec<u8>, number: i64) -> Result<(), AllocError>
     ensures { IfOk result (λ _. text.new.items ≡ text.old.items ++ signed_decimal number) }
 {
     let digits = format!(in alloc; "{number}")?;
@@ -39,7 +39,7 @@ fn push_decimal(alloc: Global, text: &mut Vec<u8>, number: i64) -> Result<(), Al
 }
 
 /// Adds the truth value with this ordinal.
-fn push_truth(text: &mut Vec<u8>, ordinal: u64) -> Result<(), AllocError>
+pub(crate) fn push_truth(text: &mut Vec<u8>, ordinal: u64) -> Result<(), AllocError>
     ensures { IfOk result (λ _. text.new.items ≡ text.old.items ++ truth_text ordinal) }
 {
     if ordinal == 0 {
@@ -51,7 +51,7 @@ fn push_truth(text: &mut Vec<u8>, ordinal: u64) -> Result<(), AllocError>
 }
 
 /// Adds the character as a text of the language: an apostrophe is doubled.
-fn push_character(text: &mut Vec<u8>, character: u8) -> Result<(), AllocError>
+pub(crate) fn push_character(text: &mut Vec<u8>, character: u8) -> Result<(), AllocError>
     ensures { IfOk result (λ _. text.new.items ≡ text.old.items ++ character_text character) }
 {
     if character == b'\'' {
@@ -66,7 +66,7 @@ fn push_character(text: &mut Vec<u8>, character: u8) -> Result<(), AllocError>
 
 /// Adds the name with this number, from 0, if there is one.
 #[tactic(auto, using(crate::proofs::Names::numbered))]
-fn push_name(text: &mut Vec<u8>, names: &[Word], number: usize) -> Result<(), AllocError>
+pub(crate) fn push_name(text: &mut Vec<u8>, names: &[Word], number: usize) -> Result<(), AllocError>
     ensures { IfOk result (λ _. text.new.items ≡ text.old.items ++ name_with number names.now) }
 {
     if number < names.len() {

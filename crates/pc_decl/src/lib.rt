@@ -7,10 +7,13 @@
 
 mod constant_text;
 mod errors;
+mod operand_pieces;
+mod operand_text;
 mod shown;
 mod type_pieces;
 mod type_text;
 
 pub use errors::errors_view;
+pub use operand_text::push_operand;
 pub use shown::{push_key, push_owner, push_path};
 pub use type_text::{push_known, push_type};
