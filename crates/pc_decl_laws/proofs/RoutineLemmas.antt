@@ -1,6 +1,6 @@
 -- Each name that a routine of a program declares stands where a name is, inside that routine.
-use Rattle.std.specs.Prelude.{ℕ, suc, ◌≡◌, ◌+◌, Bool, true, false, if◌then◌else◌, List, [], ◌∷◌, Option, ◌++◌}
-use Rattle.std.specs.Option.{option_map_or}
+use Rattle.std.specs.Prelude.{ℕ, suc, ◌≡◌, ◌+◌, ◌==◌, ◌&&◌, not, Bool, true, false, if◌then◌else◌, List, [], ◌∷◌, length, Option, Some, None, ◌++◌}
+use Rattle.std.specs.Option.{option_map_or, option_and_then, is_some}
 use Rattle.std.proofs.Common.{refl, ap, sym, subst, ◌∙◌, true≢false, inl, inr, arith}
 use Rattle.pc_syntax.specs.declared.kind.Kind.{Kind}
 use Rattle.pc_syntax.specs.declared.kind.Kind.TheVariants as kind
@@ -12,12 +12,13 @@ use Rattle.pc_scope.specs.Declarations.{Declared, declared_at}
 use Rattle.pc_scope.specs.Headings.{is_routine_kind}
 use Rattle.pc_scope.specs.Waiting.{parameters_of}
 use Rattle.pc_rules.specs.Attributes.{Attributes, first}
+use Rattle.pc_rules.specs.Declarations.{heading_here, is_later_declaration}
 use Rattle.pc_rules.specs.Decorated.{decorate}
 use Rattle.pc_rules.specs.Errors.{is_program}
 use Rattle.pc_rules.specs.Meanings.{Found, Local, find}
-use Rattle.pc_rules.specs.OwnBlock.{own}
+use Rattle.pc_rules.specs.OwnBlock.{own, heading_part}
 use Rattle.pc_rules.specs.Places.{inner, beside}
-use Rattle.pc_rules.specs.RoutineList.{Forwarded, routine_of, key_of, forwarded_by, ARoutine, AllRoutines, part_of, routines_in, routines_below, program_routine, routines_of}
+use Rattle.pc_rules.specs.RoutineList.{Forwarded, forwarded_for, owner_of, extended, routine_of, key_of, forwarded_by, ARoutine, AllRoutines, part_of, routines_in, routines_below, program_routine, routines_of}
 use Rattle.pc_rules.specs.Routines.{Routine, bare, start_of}
 use Rattle.pc_decl.specs.Declared.{without_seconds, heading_names, block_names, given_names, names_of}
 use Rattle.pc_decl.specs.FieldTypes.{is_field_kind}
@@ -32,13 +33,17 @@ use Rattle.pc_decl_laws.proofs.NameLemmas.{Stands, kind-there, trees-stand}
 
 -- ---- the node of a routine
 
--- the kids of a routine are those of the node at its place, and what is below them is inside it
+-- the kids of a routine are those of the node at its place, its heading and its own block are made of them, and what is below them is inside it; it
+-- has a key where its owner has one
 pub record IsRooted (t : Plain) (r : Routine) : Type 0 where
   pub kids : Forest
   pub here : kids_at t r.place ≡ kids
   pub well : WellFormed kids
   pub last : BlockLast kids
   pub count : r.block_kid ≡ kid_count kids
+  pub heading : r.heading ≡ heading_part kids
+  pub block : r.block ≡ own (block_kids kids)
+  pub keyed : r.has_key ≡ is_some (key_of r.owner)
   pub outer : List ℕ
   pub lift_first : LiftsFirst t outer r.place 1 kids
   pub lift_below : LiftsBelow t r.place r.place 1 kids
@@ -59,6 +64,19 @@ part-list kind.Function e = cc e
 part-list kind.Funbody e = cc e
 part-list _ e = refl
 
+-- the key of the routine that stands there
+abbrev key_here : Local → List Forwarded → Option (List (List ℕ)) → Option (List (List ℕ))
+key_here l fs key =
+    let later = is_later_declaration l in
+    let h = heading_here l in
+    let is_first = not later && not (length h.name == 0) && not (is_among l.passed h.name) in
+    if later then option_and_then (λ (x : Forwarded). x.key) (forwarded_for h fs) else if is_first then extended key h.name else None
+
+-- an owner has the key that it is made of
+key-owner : (o : Option (List (List ℕ))) (p : List ℕ) → is_some o ≡ is_some (key_of (owner_of o p))
+key-owner (Some k) p = refl
+key-owner None p = refl
+
 mutual
   unfolding routines_in
 
@@ -77,6 +95,9 @@ mutual
           well = well.3;
           last = block-last k w ks (routine-has-heading k (part-routine k e)) well.0;
           count = refl;
+          heading = refl;
+          block = refl;
+          keyed = key-owner (key_here l fs key) (p ++ l.kid ∷ []);
           outer = b;
           lift_first = kids-first t b p l.kid k w ns ks ts lift;
           lift_below = kids-below t b p l.kid k w ns ks ts (part-routine k e) lift;
@@ -106,6 +127,9 @@ routines-rooted t proper e = (
     well = proper.sound.3;
     last = block-last t.kind t.word t.kids (program-heading t.kind e) proper.sound.0;
     count = sym (routines-law.program_kids t proper e);
+    heading = refl;
+    block = refl;
+    keyed = refl;
     outer = [];
     lift_first = λ j x h l. l;
     lift_below = λ j a more x h l. l;
