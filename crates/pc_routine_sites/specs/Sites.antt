@@ -62,6 +62,7 @@ pub record StandsAround (all : List Routine) (r : Routine) (t : Tables) (blocks 
   pub self : ShowsSelf (known t) site.own_function (self_of r)
   pub key : site.key ≡ key_of r.owner
   pub place : site.place ≡ r.place
+  pub later : site.is_later ≡ r.is_later
 
 -- a routine of a program, behind these and before those, is this node, which stands here in the block of another one, behind these forward
 -- routines and in the list with this place; unless it is the later declaration of a routine with a key, its owner is new

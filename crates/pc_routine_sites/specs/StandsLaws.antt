@@ -16,7 +16,7 @@ use Rattle.pc_routines.specs.Bare.{bare_routine}
 use Rattle.pc_standing.specs.OutsideLaws.{IsPlace-outside, means-inside}
 use Rattle.pc_standing.specs.OwnsLaws.{owns-behind}
 use Rattle.pc_standing.specs.Signed.{OwnsRoutines}
-use Rattle.pc_routine_sites.specs.AroundLaws.{visit-behind, visit-means}
+use Rattle.pc_routine_sites.specs.AroundLaws.{visit-behind, visit-late, visit-means}
 use Rattle.pc_routine_sites.specs.BehindLaws.{behind-is}
 use Rattle.pc_routine_sites.specs.ParametersLaws.{visit-parameters, visit-named, visit-have_names, visit-self, visit-key_is}
 use Rattle.pc_routine_sites.specs.SiteLaws.{visit-owner_is, visit-there}
@@ -61,4 +61,5 @@ module _ (c : Visit) where
     self = visit-self c;
     key = visit-key_is c;
     place = c.went.place ∙ c.at_is ∙ sym (ap (λ (q : Routine). q.place) c.next.is);
+    later = c.went.is_later ∙ visit-late c;
   }

@@ -39,6 +39,7 @@ pub record VisitsRoutine (block : ℕ) (around : OwnerId) (given : Option (List 
   pub entries : f.entries.items ≡ facts.entries.items
   pub key : f.site.key ≡ own_key old.names.texts w given x facts.later facts.first
   pub place : f.site.place ≡ at
+  pub is_later : f.site.is_later ≡ facts.later
   pub owner : IsOwner (taken_owner facts.later (length (known old).table.owners) (found_at (waiting_at w) x.name x.is_function)) (owner_of f.site.key at) (seen old.types) (seen owned.types) f.site.owner
   pub there : f.site.owner.0 < length (known owned).table.owners
   pub names : owned.names ≡ old.names

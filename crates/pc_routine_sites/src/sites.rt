@@ -91,6 +91,7 @@ pub fn routine_site(
             key: identity.key,
             near: identity.near,
             place: identity.place,
+            is_later: facts.later,
             own_function: function,
             parameters: own,
         },

@@ -26,6 +26,7 @@ returns c =
         key = identity.key;
         near = identity.near;
         place = identity.place;
+        is_later = c.in_ok-facts.facts.later;
         own_function = c.own_function-function.result;
         parameters = c.in_ok-own.own;
       };
@@ -40,6 +41,7 @@ returns c =
       entries = refl;
       key = c.in_ok-identity.ensures.key;
       place = c.in_ok-identity.ensures.place;
+      is_later = refl;
       owner = c.in_ok-identity.ensures.owner;
       there = c.in_ok-identity.ensures.there;
       names = refl;
