@@ -4,6 +4,10 @@
 //! `ShowsNames` says when what was kept of a routine is what the rules find there.
 #![tactic(auto)]
 
+mod declaring;
+mod noting;
 mod own_name;
+mod walking;
 
+pub use declaring::declared_names;
 pub use own_name::{DeclaredName, OwnName, RoutineNames};
