@@ -1,0 +1,4 @@
+mod NumberedLemmas
+mod NodeLemmas
+mod RoutineLemmas
+mod GivenLemmas
