@@ -44,8 +44,8 @@ abbrev Signs : Tables → Signatures → List ℕ → Type 0
 Signs t sig bs = IsSigned t.names (known t) t.declarations.items sig bs
 
 -- the tables, for the block and those around it
-pub sound-begun : (all done : List Routine) (targets : Targets) (r : Routine) (blocks : List ℕ) (site : RoutineSite) (s : Resolver) (node : Plain) (block owner : ℕ) (t1 t2 : Tables) (out : Outside) (l : Local) →
-    Opens blocks site.parameters.items (Some node) block s.tables t1 → Changes block t1 t2 → StandsBegun all targets r done blocks site s → IsPlace t2 block owner out l → NoRoutines l.known →
+pub sound-begun : (all done : List Routine) (targets : Targets) (r : Routine) (blocks : List ℕ) (site : RoutineSite) (s : Resolver) (node : Option Plain) (block owner : ℕ) (t1 t2 : Tables) (out : Outside) (l : Local) →
+    Opens blocks site.parameters.items node block s.tables t1 → Changes block t1 t2 → StandsBegun all targets r done blocks site s → IsPlace t2 block owner out l → NoRoutines l.known →
     Sound all done t2 (chain_of t2.names.chains block)
 sound-begun all done targets r blocks site s node block owner t1 t2 out l opens changes begun place none =
     let t0 = s.tables in

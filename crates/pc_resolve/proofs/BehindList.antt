@@ -30,6 +30,7 @@ use Rattle.pc_resolve.specs.declared.resolver.BlockEntries.{BlockEntries}
 use Rattle.pc_resolve.specs.declared.resolver.Resolver.{Resolver}
 use Rattle.pc_resolve.proofs.BegunLemmas.{chain-begun}
 use Rattle.pc_resolve.proofs.BlockList.{below-list}
+use Rattle.pc_resolve.proofs.KeptLemmas.{all-grow}
 use Rattle.pc_resolve.proofs.ListEntered.{BlockLaws, HasFive, ListEntered, list_begins}
 
 -- what is so behind the list, by the routines inside the routine
@@ -72,13 +73,16 @@ visits-behind block t0 t4 t5 visits keeps = Visits-then block t0 t4 t5 visits (V
 pub chain-behind : (blocks : List ℕ) (block : ℕ) (c0 c1 c2 c3 : List (List ℕ)) → block ≡ length c0 → c1 ≡ c0 ++ (length c0 ∷ blocks) ∷ [] → Begins c1 c2 → Begins c2 c3 → chain_of c3 block ≡ block ∷ blocks
 chain-behind blocks block c0 c1 c2 c3 number chains g h = chain-begun blocks block c0 c3 number (subst (λ (cs : List (List ℕ)). Begins cs c3) chains (Begins-then c1 c2 c3 g h))
 
--- what the log says of the routines inside, from where the block begins to its statement part
-pub Notes-around : TouchedLaw → (all rs : List Routine) (s0 s2 s3 s4 : Resolver) → s2.touched ≡ s0.touched → s4.touched ≡ s3.touched → Grows (known s3.tables) (known s4.tables) → Notes all rs s2 s3 → Notes all rs s0 s4
-Notes-around law all rs s0 s2 s3 s4 first last g h = record {
+-- what the log says of the routines inside, and which are kept, from where the block begins to its statement part
+pub Notes-around : TouchedLaw → (all rs : List Routine) (s0 s2 s3 s4 : Resolver) → s2.touched ≡ s0.touched → s2.kept ≡ s0.kept → s4.touched ≡ s3.touched → s4.kept ≡ s3.kept → Grows (known s3.tables) (known s4.tables) → Notes all rs s2 s3 → Notes all rs s0 s4
+Notes-around law all rs s0 s2 s3 s4 first before last behind g h = record {
   more = h.more;
   variables = h.variables;
   log = last ∙ h.log ∙ ap (λ (l : List (ℕ × ℕ)). l ++ h.more) first;
   shown =
       law.grown (known s3.tables).table.owners (known s4.tables).table.owners (known s3.tables).names (known s4.tables).names h.more h.variables g.owners g.names h.shown;
   same = h.same;
+  records = h.records;
+  kept = ap (λ v. v.items) behind ∙ h.kept ∙ ap (λ v. v.items ++ h.records) before;
+  declared = all-grow all (known s3.tables) (known s4.tables) h.records rs g h.declared;
 }

@@ -89,7 +89,7 @@ list-hole all targets r done l fs list block owner w s node is none h =
     let begun : ListShown all targets r [] done m fs block owner s w s = record {
       stands = subst (λ (rs : List Routine). StandsAmong all targets r rs m fs block owner w s) (sym (append-nil done)) there;
       visits = Visits-same block s.tables;
-      notes = Notes-none all s s refl;
+      notes = Notes-none all s s refl refl;
     } in
     subst (λ (p : List Routine × List Forwarded). ListShown all targets r p.0 done m p.1 block owner s w s) (λ i. (here i, gives i)) begun
 

@@ -1,5 +1,9 @@
 pub mod BareLemmas
 pub mod RoutineEntries
+pub mod KeptLemmas
+pub mod EndingLemmas
+pub mod OwnKindsLemmas
+pub mod KeepLemmas
 pub mod NotesLemmas
 pub mod OwnParts
 pub mod OpenedLemmas
@@ -21,10 +25,12 @@ pub mod BodyFound
 pub mod SoundLemmas
 pub mod BlockLemmas
 pub mod BlockEntries
+pub mod BodyKept
 pub mod WalkLemmas
 pub mod BesideLemmas
 pub mod HoleLemmas
 pub mod RoutineLemmas
+pub mod BareShown
 pub mod WithinLemmas
 pub mod LoopLemmas
 pub mod ListedLemmas
@@ -32,3 +38,4 @@ pub mod BodyTouches
 pub mod BehindList
 pub mod BlockEnd
 pub mod BodyThere
+pub mod ResolvedLemmas

@@ -53,6 +53,7 @@ pub record HasFive (node a b c d e : Plain) : Type 0 where
   pub types : has class.Types b.kind ≡ true
   pub variables : has class.Vars c.kind ≡ true
   pub routines : has class.Routines d.kind ≡ true
+  pub body : has class.Body e.kind ≡ true
 
 -- what was made of the block up to the list of its routines
 pub record ComesToList (blocks : List ℕ) (site : RoutineSite) (program : Bool) (node a b c : Plain) (block : ℕ) (s : Resolver) (t1 : Tables) (p : Parts) (new : Resolver) : Type 0 where
@@ -98,13 +99,13 @@ list-entered laws t targets r x done beyond number node a b c d e blocks site pr
     }
 
 -- so there is such a list, where there is such a block
-pub some-list : BlockLaws → (number : ℕ) (node a b c d e : Plain) (blocks : List ℕ) (site : RoutineSite) (program : Bool) (s new : Resolver) (block : ℕ) (t1 : Tables) (p : Parts) →
-    HasFive node a b c d e → ComesToList blocks site program node a b c block s t1 p new → IsSomeBlock blocks site program number node s → IsSomeList block site number d.kids new
-some-list laws number node a b c d e blocks site program s new block t1 p five comes some =
+pub some-list : BlockLaws → (number : ℕ) (node x a b c d e : Plain) (blocks : List ℕ) (site : RoutineSite) (program : Bool) (s new : Resolver) (block : ℕ) (t1 : Tables) (p : Parts) →
+    HasFive node a b c d e → ComesToList blocks site program node a b c block s t1 p new → IsSomeBlock blocks site program number node x s → IsSomeList block site number d.kids new
+some-list laws number node x a b c d e blocks site program s new block t1 p five comes some =
     let t = some.0 in
     let r = some.2 in
-    let at = list-entered laws t some.1 r some.3 some.4 some.5 number node a b c d e blocks site program s new block t1 p five comes some.6 some.7 some.8 some.9 in
-    (t, some.1, r, some.4, some.5, list_begins t r a b c d, at.list, at.kid, at.waiting, at.site_is, at.stands)
+    let at = list-entered laws t some.1 r x some.3 some.4 number node a b c d e blocks site program s new block t1 p five comes some.5 some.6 some.7 some.8 in
+    (t, some.1, r, some.3, some.4, list_begins t r a b c d, at.list, at.kid, at.waiting, at.site_is, at.stands)
 
 -- a block that was begun is there
 pub begun-there : (blocks : List ℕ) (block : ℕ) (old new : List (List ℕ)) → block ≡ length old → new ≡ old ++ (length old ∷ blocks) ∷ [] → block < length new

@@ -55,6 +55,6 @@ list-start law t targets r x done beyond node a b c d e blocks site s new block 
     record {
       place = enter-list new.tables block site.owner.0 (bare r.means) l3 d.kids (IsPlace-bare new.tables block site.owner.0 all r l3 place);
       owns = (law.after r.owner out (start_of r) (a ∷ b ∷ c ∷ []) (law.start t r h.facts.proper h.facts.program h.among)).1;
-      sound = sound-begun all done targets r blocks site s node block site.owner.0 t1 new.tables out l3 opens changes begun place none;
+      sound = sound-begun all done targets r blocks site s (Some node) block site.owner.0 t1 new.tables out l3 opens changes begun place none;
       told = told;
     }

@@ -94,9 +94,9 @@ none-there (y ∷ ys) none = absurd (omega (arith, none))
 
 pub walking-start : (block : ℕ) (site : RoutineSite) (number : ℕ) (list : Plain) (place : List ℕ) (rest : List Plain) (headings : List RoutineHead) (old s : Resolver) (w : List ((ℕ × ℕ) × Option Forward))
     (own_so inside_so : List Entry) → IsProper list → has class.Routines list.kind ≡ true → block < length old.tables.names.chains → IsInOrder old.tables.types → Keeps old.tables s.tables → s.domains ≡ old.domains →
-    s.touched ≡ old.touched → place ≡ site.place ++ number ∷ 4 ∷ [] → rest ≡ kids_of list → ShowsHeads s.tables.names.texts headings (headings_in list.kids) → Waits s.tables w [] [] → own_so ≡ [] → inside_so ≡ [] →
+    s.touched ≡ old.touched → s.kept ≡ old.kept → place ≡ site.place ++ number ∷ 4 ∷ [] → rest ≡ kids_of list → ShowsHeads s.tables.names.texts headings (headings_in list.kids) → Waits s.tables w [] [] → own_so ≡ [] → inside_so ≡ [] →
     Walking block site number list place rest headings 0 old w s own_so inside_so
-walking-start block site number list place rest headings old s w own_so inside_so proper is there order keeps domains touched place_is rest_is heads waits own inside =
+walking-start block site number list place rest headings old s w own_so inside_so proper is there order keeps domains touched kept place_is rest_is heads waits own inside =
     let trees : list.kids ≡ forest_of rest = sym (ap forest_of rest_is ∙ forest_of-kids_of list) in
     record {
       there = less-begins old.tables.names.chains s.tables.names.chains block keeps.chains there;
@@ -106,7 +106,7 @@ walking-start block site number list place rest headings old s w own_so inside_s
       smaller = subst (λ (ks : List Plain). Every (λ u. size_of u + 1 ≤ size_of list) ks) (sym rest_is) (smaller-kids list);
       proper = subst (λ (ks : List Plain). Every IsProper ks) (sym rest_is) (proper-kids_of list proper);
       so_far = λ t targets r done beyond l h first none at stands.
-          let begun = walk-start t targets r done beyond l place list.kids block site.owner.0 old s w order keeps domains touched h first none stands waits in
+          let begun = walk-start t targets r done beyond l place list.kids block site.owner.0 old s w order keeps domains touched kept h first none stands waits in
           subst (λ (p : Forest × List Entry × List Entry). SoFar t targets r done beyond l place list.kids p.0 block site.owner.0 0 old w s p.1 p.2) (λ i. (trees i, sym own i, sym inside i)) begun;
     }
 

@@ -1,5 +1,5 @@
--- What the log of touched variables says behind some routines, and behind others: lemmas.
-use Rattle.std.proofs.Common.{◌≡◌, ℕ, Bool, true, false, ◌&&◌, ◌||◌, List, [], ◌∷◌, ◌++◌, refl, ap, sym, ◌∙◌, append-nil, append_assoc}
+-- What the log of touched variables says behind some routines, and behind others, and which were kept: lemmas.
+use Rattle.std.proofs.Common.{◌≡◌, ℕ, Bool, true, false, ◌&&◌, ◌||◌, List, [], ◌∷◌, ◌++◌, refl, ap, sym, ◌∙◌, append-nil, append_assoc, length, insert}
 use Rattle.std.specs.Str.{bytes_eq}
 use Rattle.pc_types.specs.Sameness.{same_owner}
 use Rattle.pc_types.specs.Shapes.{Owner}
@@ -14,8 +14,11 @@ use Rattle.pc_sightings.specs.TouchedLog.{ShowsTouched}
 use Rattle.pc_growth.specs.Grows.{Grows}
 use Rattle.pc_places.specs.Places.{known}
 use Rattle.pc_block_laws.specs.Touched.{TouchedLaw}
+use Rattle.pc_own_names.specs.declared.own_name.RoutineNames.{RoutineNames}
 use Rattle.pc_resolve.specs.Blocks.{Notes}
+use Rattle.pc_resolve.specs.Kept.{IsKept}
 use Rattle.pc_resolve.specs.declared.resolver.Resolver.{Resolver}
+use Rattle.pc_resolve.proofs.KeptLemmas.{all-append, all-grow, insert-behind}
 
 or-assoc : (a b c : Bool) → ((a || b) || c) ≡ (a || (b || c))
 or-assoc true b c = refl
@@ -40,8 +43,17 @@ among-append (v ∷ vs) us o n =
     let b = same_owner v.0 o && bytes_eq v.1 n in ap (λ (c : Bool). b || c) (among-append vs us o n) ∙ sym (or-assoc b (stands_among vs o n) (stands_among us o n))
 
 -- no routines
-pub Notes-none : (all : List Routine) (old new : Resolver) → new.touched ≡ old.touched → Notes all [] old new
-Notes-none all old new same = record { more = []; variables = []; log = same ∙ sym (append-nil old.touched); shown = tt; same = λ o n. refl }
+pub Notes-none : (all : List Routine) (old new : Resolver) → new.touched ≡ old.touched → new.kept ≡ old.kept → Notes all [] old new
+Notes-none all old new same kept = record {
+  more = [];
+  variables = [];
+  log = same ∙ sym (append-nil old.touched);
+  shown = tt;
+  same = λ o n. refl;
+  records = [];
+  kept = ap (λ v. v.items) kept ∙ sym (append-nil old.kept.items);
+  declared = tt;
+}
 
 -- some routines and others behind them
 pub Notes-then : InsideLaw → TouchedLaw → (all rs us : List Routine) (a b c : Resolver) → Grows (known b.tables) (known c.tables) → Notes all rs a b → Notes all us b c → Notes all (rs ++ us) a c
@@ -56,13 +68,16 @@ Notes-then inside law all rs us a b c g f s = record {
       among-append f.variables s.variables o n ∙ ap (λ (x : Bool). x || stands_among s.variables o n) (f.same o n)
       ∙ ap (λ (x : Bool). stands_among (touches_of all rs) o n || x) (s.same o n) ∙ sym (among-append (touches_of all rs) (touches_of all us) o n)
       ∙ ap (λ (vs : List (Owner × List ℕ)). stands_among vs o n) (sym (inside.joined all rs us));
+  records = f.records ++ s.records;
+  kept = s.kept ∙ ap (λ (xs : List RoutineNames). xs ++ s.records) f.kept ∙ append_assoc a.kept.items f.records s.records;
+  declared = all-append all (known c.tables) f.records s.records rs us (all-grow all (known b.tables) (known c.tables) f.records rs g f.declared) s.declared;
 }
 
--- those inside a routine, and then its own block
-pub Notes-own : TouchedLaw → (all inside : List Routine) (r : Routine) (a b c : Resolver) (more : List (ℕ × ℕ)) (touches : List (Owner × List ℕ)) → Grows (known b.tables) (known c.tables) → Notes all inside a b →
+-- those inside a routine, and then its own block, where it was kept
+pub Notes-own : TouchedLaw → (all inside : List Routine) (r : Routine) (a b c : Resolver) (more : List (ℕ × ℕ)) (touches : List (Owner × List ℕ)) (x : RoutineNames) → Grows (known b.tables) (known c.tables) → Notes all inside a b →
     c.touched ≡ b.touched ++ more → ShowsTouched (known c.tables).table.owners (known c.tables).names more touches → touches ≡ all_touches (nodes (decorate (quiet all r) (start_of r) r.block)) →
-    Notes all (r ∷ inside) a c
-Notes-own law all inside r a b c more touches g f log shown are =
+    IsKept all (known c.tables) x r → c.kept.items ≡ insert b.kept.items (length a.kept.items) x → Notes all (r ∷ inside) a c
+Notes-own law all inside r a b c more touches x g f log shown are here kept =
     let own = all_touches (nodes (decorate (quiet all r) (start_of r) r.block)) in
     record {
       more = f.more ++ more;
@@ -75,4 +90,7 @@ Notes-own law all inside r a b c more touches g f log shown are =
           among-append f.variables touches o n ∙ ap (λ (x : Bool). x || stands_among touches o n) (f.same o n)
           ∙ ap (λ (vs : List (Owner × List ℕ)). stands_among (touches_of all inside) o n || stands_among vs o n) are
           ∙ or-swap (stands_among (touches_of all inside) o n) (stands_among own o n) ∙ sym (among-append own (touches_of all inside) o n);
+      records = x ∷ f.records;
+      kept = kept ∙ ap (λ (xs : List RoutineNames). insert xs (length a.kept.items) x) f.kept ∙ insert-behind a.kept.items f.records x;
+      declared = (here, all-grow all (known b.tables) (known c.tables) f.records inside g f.declared);
     }

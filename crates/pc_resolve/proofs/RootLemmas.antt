@@ -42,9 +42,11 @@ use Rattle.pc_block_laws.specs.OwnTypes.{OwnLaw}
 use Rattle.pc_block_laws.specs.Owners.{OwnersLaw}
 use Rattle.pc_routine_sites.specs.Sites.{OwnersAmong, Sound, StandsAround}
 use Rattle.pc_routine_sites.specs.declared.site.RoutineSite.{RoutineSite}
-use Rattle.pc_resolve.specs.Blocks.{IsPart, IsRoutineOf, IsSomeBlock, ResolvesBlock, StandsBegun}
+use Rattle.pc_own_names.specs.declared.own_name.RoutineNames.{RoutineNames}
+use Rattle.pc_resolve.specs.Blocks.{BlockShown, IsPart, IsRoutineOf, IsSomeBlock, ResolvesBare, ResolvesBlock, StandsBegun}
+use Rattle.pc_resolve.specs.Kept.{AreKept}
 use Rattle.pc_resolve.specs.Parts.{IsRoutinePart, HasNoBlock}
-use Rattle.pc_resolve.specs.Program.{IsBegun, IsProgramFound, IsProgramSite}
+use Rattle.pc_resolve.specs.Program.{IsBegun, IsProgramFound, IsProgramKept, IsProgramSite}
 use Rattle.pc_resolve.specs.declared.resolver.BlockEntries.{BlockEntries}
 use Rattle.pc_resolve.specs.declared.resolver.Resolver.{Resolver}
 use Rattle.pc_resolve.proofs.FactsLemmas.{program-facts}
@@ -144,6 +146,7 @@ root-around t s site proper program begun is =
       self = subst (λ (v : Option Variable). ShowsSelf (known s.tables) v None) (sym is.own_function) tt;
       key = is.key;
       place = is.place;
+      later = is.later;
     }
   where
     first-there : 0 < 1
@@ -161,15 +164,38 @@ root-begun laws t s site proper program begun is = record {
 
 -- there is such a block of a program
 pub root-some : RootLaws → (t : Plain) (s : Resolver) (site : RoutineSite) (number : ℕ) (node : Plain) → IsProper t → is_program t.kind ≡ true → IsBegun s → IsProgramSite site → IsRoutinePart t number node →
-    IsSomeBlock [] site true number node s
+    IsSomeBlock [] site true number node t s
 root-some laws t s site number node proper program begun is part =
-    (t, targets_of t, program_routine t, t, program_routine t ∷ [], [], root-routine laws t proper program, root-part t number node part, refl, root-begun laws t s site proper program begun is)
+    (t, targets_of t, program_routine t, program_routine t ∷ [], [], root-routine laws t proper program, root-part t number node part, refl, root-begun laws t s site proper program begun is)
+
+-- all routines of the program are kept
+root-kept : RoutinesLaw → (t : Plain) (inside : List Routine) (s new : Resolver) → IsBegun s → inside ≡ routines_below (program_routine t) 1 t.kids →
+    BlockShown (routines_of t) (targets_of t) (program_routine t) inside (program_routine t ∷ []) [] s new → IsProgramKept t new
+root-kept law t inside s new begun same shown =
+    let notes = shown.notes in
+    let rs : program_routine t ∷ inside ≡ routines_of t = ap (λ (qs : List Routine). program_routine t ∷ qs) same ∙ sym (law.program t) in
+    let records : new.kept.items ≡ notes.records = notes.kept ∙ ap (λ (xs : List RoutineNames). xs ++ notes.records) begun.kept in
+    record {
+      kept = subst (λ (p : List RoutineNames × List Routine). AreKept (routines_of t) (known new.tables) p.0 p.1) (λ i. (sym records i, rs i)) notes.declared;
+      apart = shown.sound.apart;
+    }
+
+-- where it has no block
+pub root-bare : RootLaws → (t : Plain) (s new : Resolver) (site : RoutineSite) → IsProper t → is_program t.kind ≡ true → IsBegun s → IsProgramSite site → HasNoBlock t → ResolvesBare [] site t s new → IsProgramKept t new
+root-bare laws t s new site proper program begun is none bare =
+    root-kept laws.routines t [] s new begun (sym (none.inside (program_routine t)))
+    (bare t (targets_of t) (program_routine t) (program_routine t ∷ []) [] (root-routine laws t proper program) none (root-begun laws t s site proper program begun is))
+
+-- the program's parameters are named, as it has none
+pub root-named : (site : RoutineSite) (n : ℕ) → IsProgramSite site → AreNamed n site.parameters.items
+root-named site n is = subst (λ (ps : List Parameter). AreNamed n ps) (sym is.parameters) tt
 
 -- and what is made of it is what the rules find
 pub root-found : RootLaws → (t : Plain) (s new : Resolver) (site : RoutineSite) (number : ℕ) (node : Plain) (es : BlockEntries) → IsProper t → is_program t.kind ≡ true → IsBegun s → IsProgramSite site →
-    IsRoutinePart t number node → ResolvesBlock [] site true number node s new es → IsProgramFound t es
+    IsRoutinePart t number node → ResolvesBlock [] site true number node t s new es → IsProgramFound t es × IsProgramKept t new
 root-found laws t s new site number node es proper program begun is part found =
-    (found t (targets_of t) (program_routine t) t (program_routine t ∷ []) [] (root-routine laws t proper program) (root-part t number node part) refl (root-begun laws t s site proper program begun is)).0
+    let shown = found t (targets_of t) (program_routine t) (program_routine t ∷ []) [] (root-routine laws t proper program) (root-part t number node part) refl (root-begun laws t s site proper program begun is) in
+    (shown.0, root-kept laws.routines t (routines_below (program_routine t) 1 t.kids) s new begun refl shown.1)
 
 -- ---- the entries of the program
 

@@ -61,6 +61,7 @@ pub record GoesToBlock (block : ℕ) (site : RoutineSite) (list : List ℕ) (num
   pub begins : Begins (known old.tables).table.domains (known mid.tables).table.domains
   pub domains : mid.domains ≡ old.domains
   pub touched : mid.touched ≡ old.touched
+  pub kept : mid.kept ≡ old.kept
 
 has-heading : (k : Kind) → is_routine_kind k ≡ true → has_heading k ≡ true
 has-heading kind.Procedure e = refl
@@ -153,7 +154,16 @@ module _ (block : ℕ) (site : RoutineSite) (list : List ℕ) (number : ℕ) (x 
     notes-here : Notes all (one ∷ below) old new
     notes-here =
         let n = found-within.2.notes in
-        record { more = n.more; variables = n.variables; log = n.log ∙ ap (λ (xs : List (ℕ × ℕ)). xs ++ n.more) g.touched; shown = n.shown; same = n.same }
+        record {
+          more = n.more;
+          variables = n.variables;
+          log = n.log ∙ ap (λ (xs : List (ℕ × ℕ)). xs ++ n.more) g.touched;
+          shown = n.shown;
+          same = n.same;
+          records = n.records;
+          kept = n.kept ∙ ap (λ v. v.items ++ n.records) g.kept;
+          declared = n.declared;
+        }
 
     sound-here : Sound all (done ++ one ∷ below) new.tables (chain_of new.tables.names.chains block)
     sound-here =

@@ -59,9 +59,9 @@ stands-kept all targets r done l block owner old s order keeps domains h =
 
 -- before the first tree, once the headings were taken
 pub walk-start : (t : Plain) (targets : Targets) (r : Routine) (done beyond : List Routine) (l : Local) (list : List ℕ) (ts : Forest) (block owner : ℕ) (old s : Resolver) (w : List ((ℕ × ℕ) × Option Forward)) →
-    IsInOrder old.tables.types → Keeps old.tables s.tables → s.domains ≡ old.domains → s.touched ≡ old.touched → IsListOf t targets r done beyond l [] list ts → l.kid ≡ 1 → l.waiting ≡ [] →
+    IsInOrder old.tables.types → Keeps old.tables s.tables → s.domains ≡ old.domains → s.touched ≡ old.touched → s.kept ≡ old.kept → IsListOf t targets r done beyond l [] list ts → l.kid ≡ 1 → l.waiting ≡ [] →
     StandsIn (routines_of t) targets r done l block owner old → Waits s.tables w [] [] → SoFar t targets r done beyond l list ts ts block owner 0 old w s [] []
-walk-start t targets r done beyond l list ts block owner old s w order keeps domains touched h first none stands waits =
+walk-start t targets r done beyond l list ts block owner old s w order keeps domains touched kept h first none stands waits =
     let all = routines_of t in
     let gone : done ≡ done ++ [] = sym (append-nil done) in
     let there = stands-kept all targets r done l block owner old s order keeps domains stands in
@@ -76,7 +76,7 @@ walk-start t targets r done beyond l list ts block owner old s w order keeps dom
         waits = subst (λ (hs : List Heading). Waits s.tables w hs []) (sym none) waits;
       };
       visits = Visits-kept block old.tables s.tables keeps;
-      notes = Notes-none all old s touched;
+      notes = Notes-none all old s touched kept;
       routines = refl;
       own_are = ap (λ (n : ℕ). kid_entries n (nodes (decorate (outside_of all r) l (own ts)))) (sym first);
       inside_are = refl;

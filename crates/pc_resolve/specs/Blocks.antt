@@ -25,7 +25,10 @@ use Rattle.pc_domains.specs.Told.{IsTold}
 use Rattle.pc_routine_sites.specs.Sites.{Sound, StandsAround}
 use Rattle.pc_routine_sites.specs.Visits.{Visits}
 use Rattle.pc_routine_sites.specs.declared.site.RoutineSite.{RoutineSite}
+use Rattle.pc_own_names.specs.declared.own_name.RoutineNames.{RoutineNames}
 use Rattle.pc_resolve.specs.Facts.{ProgramFacts, is_root}
+use Rattle.pc_resolve.specs.Kept.{AreKept}
+use Rattle.pc_resolve.specs.Parts.{HasNoBlock}
 use Rattle.pc_resolve.specs.declared.resolver.Resolver.{Resolver}
 use Rattle.pc_resolve.specs.declared.resolver.BlockEntries.{BlockEntries}
 
@@ -56,13 +59,16 @@ pub record StandsBegun (all : List Routine) (targets : Targets) (r : Routine) (d
   pub told : IsTold targets s.domains (known s.tables)
   pub first : is_root r ≡ true → site.owner.0 ≡ 0
 
--- the log of touched variables has grown by those that these routines touch, in some order
+-- the log of touched variables has grown by those that these routines touch, in some order; and these routines were kept, in their order
 pub record Notes (all rs : List Routine) (old new : Resolver) : Type 0 where
   pub more : List (ℕ × ℕ)
   pub variables : List (Owner × List ℕ)
   pub log : new.touched ≡ old.touched ++ more
   pub shown : ShowsTouched (known new.tables).table.owners (known new.tables).names more variables
   pub same : (o : Owner) (n : List ℕ) → stands_among variables o n ≡ stands_among (touches_of all rs) o n
+  pub records : List RoutineNames
+  pub kept : new.kept.items ≡ old.kept.items ++ records
+  pub declared : AreKept all (known new.tables) records rs
 
 -- what was found at the block of a routine and at the routines inside it is what the rules find, and the state stands for what comes behind
 pub record BlockShown (all : List Routine) (targets : Targets) (r : Routine) (inside done : List Routine) (blocks : List ℕ) (old new : Resolver) : Type 0 where
@@ -76,17 +82,22 @@ pub record EntriesShown (all : List Routine) (r : Routine) (inside : List Routin
   pub own : es.own.items ≡ kid_entries 1 (nodes (decorate (outside_of all r) (start_of r) r.block))
   pub inside_are : es.inside.items ≡ entries_of all inside
 
--- What is made of the block of a routine: whichever routine of a program it is, and wherever it stands in the list of all, this is what the
--- rules find there.
-abbrev pub ResolvesBlock : List ℕ → RoutineSite → Bool → ℕ → Plain → Resolver → Resolver → BlockEntries → Type 0
-ResolvesBlock blocks site program number node old new es = (t : Plain) (targets : Targets) (r : Routine) (x : Plain) (done beyond : List Routine) → IsRoutineOf t targets r x done beyond → IsPart x number node →
+-- What is made of the block of a routine's tree: whichever routine of a program it is, and wherever it stands in the list of all, this is what
+-- the rules find there.
+abbrev pub ResolvesBlock : List ℕ → RoutineSite → Bool → ℕ → Plain → Plain → Resolver → Resolver → BlockEntries → Type 0
+ResolvesBlock blocks site program number node x old new es = (t : Plain) (targets : Targets) (r : Routine) (done beyond : List Routine) → IsRoutineOf t targets r x done beyond → IsPart x number node →
     program ≡ is_root r → StandsBegun (routines_of t) targets r done blocks site old →
     EntriesShown (routines_of t) r (routines_below r 1 x.kids) es × BlockShown (routines_of t) targets r (routines_below r 1 x.kids) done blocks old new
 
 -- there is such a routine of a program
-abbrev pub IsSomeBlock : List ℕ → RoutineSite → Bool → ℕ → Plain → Resolver → Type 0
-IsSomeBlock blocks site program number node s = (t : Plain) × (targets : Targets) × (r : Routine) × (x : Plain) × (done : List Routine) × (beyond : List Routine) × IsRoutineOf t targets r x done beyond × IsPart x number node
+abbrev pub IsSomeBlock : List ℕ → RoutineSite → Bool → ℕ → Plain → Plain → Resolver → Type 0
+IsSomeBlock blocks site program number node x s = (t : Plain) × (targets : Targets) × (r : Routine) × (done : List Routine) × (beyond : List Routine) × IsRoutineOf t targets r x done beyond × IsPart x number node
     × (program ≡ is_root r) × StandsBegun (routines_of t) targets r done blocks site s
+
+-- What is made of a routine's tree without a block: no routine is inside it, and it is kept.
+abbrev pub ResolvesBare : List ℕ → RoutineSite → Plain → Resolver → Resolver → Type 0
+ResolvesBare blocks site x old new = (t : Plain) (targets : Targets) (r : Routine) (done beyond : List Routine) → IsRoutineOf t targets r x done beyond → HasNoBlock x →
+    StandsBegun (routines_of t) targets r done blocks site old → BlockShown (routines_of t) targets r [] done blocks old new
 
 -- What is made of a routine's tree, where its block is to be gone through if it has one: the entries of this kid.
 abbrev pub ResolvesWithin : List ℕ → RoutineSite → Plain → ℕ → Resolver → Resolver → BlockEntries → Type 0

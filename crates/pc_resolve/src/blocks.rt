@@ -11,6 +11,7 @@ ghost use Rattle.pc_resolve.specs.Blocks.{IsSomeBlock, ResolvesBlock, IsSomeWith
 ghost use Rattle.pc_resolve.specs.Lists.{IsSomeList, IsSomeTree, ResolvesList, ResolvesRoutine};
 
 use crate::entries::{add_all, block_entries, list_place, no_entries, routine_entries};
+use crate::keeping::{keep, names_declared, no_block};
 use crate::numbers::next;
 use crate::parts::{block_part, is_routine};
 use crate::resolver::{BlockEntries, Resolver};
@@ -34,7 +35,7 @@ use pc_statement_parts::statement_part;
 use pc_syntax::{Path, Tree};
 use std::alloc::{AllocError, Global};
 
-/// What is found at the block of a routine, which is this kid of it, and at the routines inside. Fails for want of memory and of numbers,
+/// What is found at the block of a routine with this tree, which is this kid of it, and at the routines inside; they are kept. Fails for want of memory and of numbers,
 /// and where `Domains::close` does.
 #[cycle(blocks)]
 pub(crate) fn block(
@@ -45,11 +46,12 @@ pub(crate) fn block(
     is_program: bool,
     number: u32,
     node: &Tree,
+    tree: &Tree,
 ) -> Result<BlockEntries, AllocError>
     requires around { ForSome around (λ b. b.0 < length resolver.old.tables.names.chains) }
     requires node { node.now.kind ≡ kind.Block }
-    requires some { IsSomeBlock (chain_around resolver.old.tables.names.chains (option_map (λ b. b.0) around)) site.now is_program number node.now resolver.old }
-    ensures found { IfOk result (λ es. ResolvesBlock (chain_around resolver.old.tables.names.chains (option_map (λ b. b.0) around)) site.now is_program number node.now resolver.old resolver.new es) }
+    requires some { IsSomeBlock (chain_around resolver.old.tables.names.chains (option_map (λ b. b.0) around)) site.now is_program number node.now tree.now resolver.old }
+    ensures found { IfOk result (λ es. ResolvesBlock (chain_around resolver.old.tables.names.chains (option_map (λ b. b.0) around)) site.now is_program number node.now tree.now resolver.old resolver.new es) }
 {
     match form_of(node) {
         Form::Block {
@@ -70,6 +72,8 @@ pub(crate) fn block(
             known_types_are_own();
             bodies_stand_behind_declarations();
             logs_say_what_is_touched();
+            let declared = names_declared(alloc, &resolver.tables, site, tree)?;
+            let index = resolver.kept.as_slice().len();
             let opened = open_block(
                 &mut resolver.tables,
                 around,
@@ -92,6 +96,15 @@ pub(crate) fn block(
             let below = block_routines(alloc, resolver, opened, site, number, routines)?;
             resolver.domains.catch_up(alloc, &mut resolver.tables)?;
             resolver.tables.types.stays_in_order();
+            keep(
+                alloc,
+                &resolver.tables,
+                &mut resolver.kept,
+                index,
+                declared,
+                opened,
+                site,
+            )?;
             let own = statement_part(
                 alloc,
                 &mut resolver.tables,
@@ -238,9 +251,21 @@ fn routine_block(
 {
     match block_part(node) {
         Some((number, part)) => {
-            let found = block(alloc, resolver, Some(around), site, false, number, part)?;
+            let found = block(
+                alloc,
+                resolver,
+                Some(around),
+                site,
+                false,
+                number,
+                part,
+                node,
+            )?;
             Ok((number, found))
         }
-        None => Ok((1, no_entries(alloc))),
+        None => {
+            no_block(alloc, resolver, Some(around), site, node)?;
+            Ok((1, no_entries(alloc)))
+        }
     }
 }

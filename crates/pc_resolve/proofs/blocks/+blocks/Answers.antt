@@ -20,7 +20,7 @@ use Rattle.pc_resolve.proofs.RoutineLemmas.{GoesToBlock, resolves-routine, some-
 use Rattle.pc_resolve.proofs.WithinLemmas.{some-block, within-block, within-none}
 use Rattle.pc_resolve.specs.declared.resolver.BlockEntries.{BlockEntries}
 use Rattle.pc_resolve.proofs.BlockEnd.{ComesToEnd, EndLaws, block-end}
-use Rattle.pc_resolve.proofs.BodyThere.{body-there}
+use Rattle.pc_resolve.proofs.BodyThere.{body-there, kept-there}
 use Rattle.pc_resolve.proofs.blocks.+blocks.Goals as goal
 
 -- ---- block, up to its routines (R1)
@@ -30,7 +30,7 @@ block-open_block-requires t c =
     let some = c.requires.some in
     record {
       around = c.requires.around;
-      named = subst (AreNamed (length c.args.resolver.now.tables.names.texts)) (sym c.as_slice.ensures.value) some.9.around.are_named;
+      named = subst (AreNamed (length c.args.resolver.now.tables.names.texts)) (sym c.as_slice.ensures.value) some.8.around.are_named;
       node = λ x e. subst (λ y. y.now.kind ≡ kind.Block) (same_Some _ x e) c.requires.node;
     }
 
@@ -42,7 +42,7 @@ block-declaration_parts-requires t c =
     let classes = c.in-Block.ensures.classes in
     record {
       block = begun-there (chain_around old.names.chains (option_map {T = BlockId} {U = ℕ} (λ b. b.0) c.args.around)) c.in_ok-opened-in-Block.opened.0 old.names.chains c.open_block.new.tables.names.chains opens.number opens.chains;
-      owner = rw opens.types some.9.around.there;
+      owner = rw opens.types some.8.around.there;
       constants = classes.0;
       types = classes.1.0;
       variables = classes.1.1.0;
@@ -76,6 +76,7 @@ block-block_routines-requires t c =
       types = at.classes.1.0;
       variables = at.classes.1.1.0;
       routines = at.classes.1.1.1.0;
+      body = at.classes.1.1.1.1.0;
     } in
     let comes : ComesToList blocks site program node a b v block s t1 p new = record {
       order = c.stays_in_order.ensures;
@@ -96,11 +97,107 @@ block-block_routines-requires t c =
       omega (arith, at.smaller.1.1.1.0, c.decreases),
       (
         less-begins t1.names.chains t2.names.chains block c.in_ok-parts-in-Block.ensures.changes.chains (begun-there blocks block old.names.chains t1.names.chains began.number began.chains),
-        (at.classes.1.1.1.0, some-list laws c.args.number node a b v d e blocks site program s new block t1 p five comes some),
+        (at.classes.1.1.1.0, some-list laws c.args.number node c.args.tree.now a b v d e blocks site program s new block t1 p five comes some),
       ),
     )
 
 -- ---- block, behind its routines (R4)
+
+pub block-keep-requires-clause-block : goal.block-keep-requires-clause-block
+block-keep-requires-clause-block t c =
+    let s = c.args.resolver.now in
+    let old = s.tables in
+    let node = c.args.node.now in
+    let site = c.args.site.now in
+    let program = c.args.is_program in
+    let blocks = chain_around old.names.chains (option_map {T = BlockId} {U = ℕ} (λ b. b.0) c.args.around) in
+    let block = c.in_ok-opened-in-Block.opened.0 in
+    let t1 = c.open_block.new.tables in
+    let t2 = c.declaration_parts.new.tables in
+    let p = c.in_ok-parts-in-Block.parts in
+    let a = c.in-Block.consts.now in
+    let b = c.in-Block.types.now in
+    let v = c.in-Block.vars.now in
+    let d = c.in-Block.routines.now in
+    let e = c.in-Block.body.now in
+    let at = c.in-Block.ensures in
+    let s2 : Resolver = record s { tables = t2; domains = c.declaration_parts.new.domains } in
+    let five : HasFive node a b v d e = record {
+      is = c.requires.node;
+      proper = at.proper;
+      kids = sym at.kids;
+      constants = at.classes.0;
+      types = at.classes.1.0;
+      variables = at.classes.1.1.0;
+      routines = at.classes.1.1.1.0;
+      body = at.classes.1.1.1.1.0;
+    } in
+    let comes : ComesToList blocks site program node a b v block s t1 p s2 = record {
+      order = c.stays_in_order.ensures;
+      opens = subst (λ (ps : List Parameter). Opens blocks ps (Some node) block old t1) c.as_slice.ensures.value c.in_ok-opened-in-Block.ensures;
+      makes =
+          subst (λ (ps : List Parameter). MakesParts block site.owner.0 program ps a b v s.domains s2.domains t1 t2 p) c.as_slice-in-Block.ensures.value
+          c.in_ok-parts-in-Block.ensures.parts;
+      changes = c.in_ok-parts-in-Block.ensures.changes;
+    } in
+    let laws : BlockLaws = record {
+      routines = c.routines_come_in_order.ensures;
+      unsigned = c.declarations_see_no_signature.ensures;
+      body = c.bodies_stand_behind_declarations.ensures;
+      own = c.routines_are_of_their_block.ensures;
+      once = c.blocks_know_each_name_once.ensures;
+    } in
+    body-there laws c.args.number node c.args.tree.now a b v d e blocks site program s s2 c.block_routines.new.resolver block t1 c.catch_up.new.tables p c.in_ok-below-in-Block.below five comes c.requires.some
+    c.in_ok-below-in-Block.ensures.found c.in_ok-catch_up-in-Block.ensures.retargeted
+
+pub block-keep-requires-clause-index : goal.block-keep-requires-clause-index
+block-keep-requires-clause-index t c =
+    let s = c.args.resolver.now in
+    let old = s.tables in
+    let node = c.args.node.now in
+    let site = c.args.site.now in
+    let program = c.args.is_program in
+    let blocks = chain_around old.names.chains (option_map {T = BlockId} {U = ℕ} (λ b. b.0) c.args.around) in
+    let block = c.in_ok-opened-in-Block.opened.0 in
+    let t1 = c.open_block.new.tables in
+    let t2 = c.declaration_parts.new.tables in
+    let p = c.in_ok-parts-in-Block.parts in
+    let a = c.in-Block.consts.now in
+    let b = c.in-Block.types.now in
+    let v = c.in-Block.vars.now in
+    let d = c.in-Block.routines.now in
+    let e = c.in-Block.body.now in
+    let at = c.in-Block.ensures in
+    let s2 : Resolver = record s { tables = t2; domains = c.declaration_parts.new.domains } in
+    let five : HasFive node a b v d e = record {
+      is = c.requires.node;
+      proper = at.proper;
+      kids = sym at.kids;
+      constants = at.classes.0;
+      types = at.classes.1.0;
+      variables = at.classes.1.1.0;
+      routines = at.classes.1.1.1.0;
+      body = at.classes.1.1.1.1.0;
+    } in
+    let comes : ComesToList blocks site program node a b v block s t1 p s2 = record {
+      order = c.stays_in_order.ensures;
+      opens = subst (λ (ps : List Parameter). Opens blocks ps (Some node) block old t1) c.as_slice.ensures.value c.in_ok-opened-in-Block.ensures;
+      makes =
+          subst (λ (ps : List Parameter). MakesParts block site.owner.0 program ps a b v s.domains s2.domains t1 t2 p) c.as_slice-in-Block.ensures.value
+          c.in_ok-parts-in-Block.ensures.parts;
+      changes = c.in_ok-parts-in-Block.ensures.changes;
+    } in
+    let laws : BlockLaws = record {
+      routines = c.routines_come_in_order.ensures;
+      unsigned = c.declarations_see_no_signature.ensures;
+      body = c.bodies_stand_behind_declarations.ensures;
+      own = c.routines_are_of_their_block.ensures;
+      once = c.blocks_know_each_name_once.ensures;
+    } in
+    let fewer =
+    kept-there laws c.args.number node c.args.tree.now a b v d e blocks site program s s2 c.block_routines.new.resolver block t1 p c.in_ok-below-in-Block.below five comes c.requires.some c.in_ok-below-in-Block.ensures.found refl in
+    let index = ap length c.as_slice-index.ensures.value in
+    omega (arith, fewer, index)
 
 pub block-statement_part-requires-clause-block : goal.block-statement_part-requires-clause-block
 block-statement_part-requires-clause-block t c =
@@ -129,6 +226,7 @@ block-statement_part-requires-clause-block t c =
       types = at.classes.1.0;
       variables = at.classes.1.1.0;
       routines = at.classes.1.1.1.0;
+      body = at.classes.1.1.1.1.0;
     } in
     let comes : ComesToList blocks site program node a b v block s t1 p s2 = record {
       order = c.stays_in_order.ensures;
@@ -145,7 +243,7 @@ block-statement_part-requires-clause-block t c =
       own = c.routines_are_of_their_block.ensures;
       once = c.blocks_know_each_name_once.ensures;
     } in
-    body-there laws c.args.number node a b v d e blocks site program s s2 c.block_routines.new.resolver block t1 c.catch_up.new.tables p c.in_ok-below-in-Block.below five comes c.requires.some
+    body-there laws c.args.number node c.args.tree.now a b v d e blocks site program s s2 c.block_routines.new.resolver block t1 c.catch_up.new.tables p c.in_ok-below-in-Block.below five comes c.requires.some
     c.in_ok-below-in-Block.ensures.found c.in_ok-catch_up-in-Block.ensures.retargeted
 
 pub block-returns : goal.block-returns
@@ -175,6 +273,7 @@ block-returns t c =
       types = at.classes.1.0;
       variables = at.classes.1.1.0;
       routines = at.classes.1.1.1.0;
+      body = at.classes.1.1.1.1.0;
     } in
     let comes : ComesToList blocks site program node a b v block s t1 p s2 = record {
       order = c.stays_in_order.ensures;
@@ -199,14 +298,17 @@ block-returns t c =
     } in
     let s3 = c.block_routines.new.resolver in
     let s4 : Resolver = record s3 { tables = c.catch_up.new.tables; domains = c.catch_up.new.self } in
-    let s5 : Resolver = record s4 { tables = c.statement_part.new.tables; touched = c.statement_part.new.touched } in
+    let s5 : Resolver = record s4 { tables = c.statement_part.new.tables; touched = c.statement_part.new.touched; kept = c.keep.new.kept } in
+    let declared = c.in_ok-declared-in-Block.declared.items in
     let below = c.in_ok-below-in-Block.below in
     let own = c.in_ok-own-in-Block.own.items in
-    let ends : ComesToEnd c.args.number d e block c.mark-mark.result site s2 s3 s4 s5 below own = record {
+    let ends : ComesToEnd c.args.number d e block c.mark-mark.result (length c.as_slice-index.result.now) declared site s2 s3 s4 s5 below own = record {
       list = c.in_ok-below-in-Block.ensures.found;
       told = c.in_ok-catch_up-in-Block.ensures.told;
       retargeted = c.in_ok-catch_up-in-Block.ensures.retargeted;
       logged = refl;
+      before = refl;
+      keeps_one = c.in_ok-keep-in-Block.ensures;
       order = c.stays_in_order-in-Block.ensures;
       body = c.in_ok-own-in-Block.ensures.found;
       keeps = c.in_ok-own-in-Block.ensures.keeps;
@@ -215,7 +317,8 @@ block-returns t c =
     let es : BlockEntries = record { own = c.in_ok-all-in-Block.all; inside = below.inside } in
     record {
       found =
-          block-end laws more c.args.number node a b v d e blocks site program s s2 s3 s4 s5 block c.mark-mark.result t1 p below es own five comes refl c.mark-mark.ensures ends
+          block-end laws more c.args.number node c.args.tree.now a b v d e blocks site program s s2 s3 s4 s5 block c.mark-mark.result (length c.as_slice-index.result.now) declared t1 p below es own five comes refl refl c.mark-mark.ensures (ap length c.as_slice-index.ensures.value)
+          c.in_ok-declared-in-Block.ensures ends
           (record { own_are = c.in_ok-all-in-Block.ensures; inside_are = refl });
     }
 
@@ -249,6 +352,7 @@ routine-routine_block-requires t c =
       begins = c.in_ok-found.ensures.domains;
       domains = refl;
       touched = refl;
+      kept = refl;
     } in (
       omega (arith, c.decreases),
       (
@@ -275,6 +379,7 @@ routine-returns t c =
       begins = c.in_ok-found.ensures.domains;
       domains = refl;
       touched = refl;
+      kept = refl;
     } in
     record {
       found =
@@ -304,10 +409,13 @@ routine_block-returns-in_ok-found-in-Some t c =
           within-block blocks c.args.site.now c.args.node.now c.in-Some.number c.in-Some.part.now c.args.resolver.now c.block.new.resolver c.in_ok-found-in-Some.found part c.in_ok-found-in-Some.ensures.found;
     }
 
-pub routine_block-returns-in-None : goal.routine_block-returns-in-None
-routine_block-returns-in-None t c =
+pub routine_block-returns-in_ok-no_block-in-None : goal.routine_block-returns-in_ok-no_block-in-None
+routine_block-returns-in_ok-no_block-in-None t c =
     let blocks = chain_of c.args.resolver.now.tables.names.chains c.args.around.0 in
-    record { found = within-none blocks c.args.site.now c.args.node.now 1 c.args.resolver.now c.no_entries.result c.in-None.ensures.none c.no_entries.ensures.own c.no_entries.ensures.inside }
+    record {
+      found =
+          within-none blocks c.args.site.now c.args.node.now 1 c.args.resolver.now c.no_block.new.resolver c.no_entries.result c.in-None.ensures.none c.no_entries.ensures.own c.no_entries.ensures.inside c.in_ok-no_block-in-None.ensures;
+    }
 
 -- ---- a list of routines (R2)
 
@@ -318,7 +426,7 @@ block_routines-loop-rest-init t c =
     let mid : Resolver = record s { tables = c.heads.new.tables } in
     let headings = c.as_slice-headings.result.now in
     walking-start c.args.block.0 site c.args.number c.args.list.now (site.place ++ c.args.number ∷ 4 ∷ []) c.kid_slice-rest.result.now headings s mid c.new-waiting.result c.new-own.result.items c.new-inside.result.items
-    c.kid_slice-rest.ensures.proper c.requires.list c.requires.block c.stays_in_order.ensures c.in_ok-heads.ensures.keeps refl refl refl c.kid_slice-rest.ensures.value
+    c.kid_slice-rest.ensures.proper c.requires.list c.requires.block c.stays_in_order.ensures c.in_ok-heads.ensures.keeps refl refl refl refl c.kid_slice-rest.ensures.value
     (subst (λ (xs : List RoutineHead). ShowsHeads mid.tables.names.texts xs (headings_in c.args.list.now.kids)) (sym c.as_slice-headings.ensures.value) c.in_ok-heads.ensures.shows) (c.new-waiting.ensures mid.tables)
     c.new-own.ensures.items c.new-inside.ensures.items
 

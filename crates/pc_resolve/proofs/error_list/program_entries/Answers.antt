@@ -8,4 +8,4 @@ pub returns : goal.returns
 returns c =
     if-ok c.routine_entries.result
     (λ es. all-entries c.routines_come_in_order.ensures c.args.tree.now c.in_ok-heading.heading.items es.items c.in_ok-found.found c.program_site-site.result.place c.program_site-site.ensures.place
-    (c.in_ok-heading.ensures required_or_missing (Keyed []) false) c.in_ok-found.ensures) c.routine_entries.ensures
+    (c.in_ok-heading.ensures required_or_missing (Keyed []) false) c.in_ok-found.ensures.found) c.routine_entries.ensures
