@@ -1,0 +1,5 @@
+pub mod Rows
+pub mod LaterTables
+pub mod KeptTypes
+pub mod KeptNames
+pub mod KeptRoutines
