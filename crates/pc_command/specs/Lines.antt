@@ -12,7 +12,7 @@ use Rattle.pc_command.specs.declared.command_word.CommandWord.TheVariants as wor
 use Rattle.pc_command.specs.declared.view_word.ViewWord.{ViewWord}
 use Rattle.pc_command.specs.declared.view_word.ViewWord.TheVariants as view
 use Rattle.pc_command.specs.declared.command.ViewName.{ViewName}
-use Rattle.pc_command.specs.declared.command.ViewName.TheVariants.{Syntax, Nodes, Errors}
+use Rattle.pc_command.specs.declared.command.ViewName.TheVariants.{Syntax, Nodes, Decls, Errors}
 use Rattle.pc_command.specs.declared.command.Command.{Command}
 use Rattle.pc_command.specs.declared.command.Command.TheVariants.{Load, Put, Add, Fill, Retype, Cut, Undo, Redo, Show}
 use Rattle.pc_command.specs.declared.error.CommandError.{CommandError}
@@ -52,6 +52,7 @@ text_reading text here = option_map_or (λ _. ok_or here Missing) (end_word text
 abbrev pub view_of : ViewWord → Read ViewName
 view_of view.Syntax = Ok Syntax
 view_of view.Tree = Ok Nodes
+view_of view.Decls = Ok Decls
 view_of view.Errors = Ok Errors
 view_of _ = Err NotBuilt
 

@@ -33,6 +33,8 @@ pub enum ViewName {
     Syntax,
     /// The nodes of its tree, a line for each (the word is `tree`).
     Nodes,
+    /// What its routines declare, a line for each routine and each name (the word is `decls`).
+    Decls,
     /// Its errors, a line for each.
     Errors,
 }

@@ -230,6 +230,7 @@ fn read_view(word: &[u8]) -> Result<ViewName, CommandError>
     match ViewWord::read(word) {
         Some(ViewWord::Syntax) => Ok(ViewName::Syntax),
         Some(ViewWord::Tree) => Ok(ViewName::Nodes),
+        Some(ViewWord::Decls) => Ok(ViewName::Decls),
         Some(ViewWord::Errors) => Ok(ViewName::Errors),
         Some(_) => Err(CommandError::NotBuilt),
         None => Err(CommandError::Unknown),
