@@ -4,11 +4,12 @@ use Rattle.pc_syntax.specs.Plain.{Plain}
 use Rattle.pc_pretty.specs.Printed.{printed}
 use Rattle.pc_views.specs.Limit.{limited}
 use Rattle.pc_views.specs.TreeView.{tree_view}
+use Rattle.pc_decl.specs.DeclsText.{decls_text}
 use Rattle.pc_decl.specs.ErrorsText.{errors_text}
 use Rattle.pc_command.specs.declared.refusal.Refusal.{Refusal}
 use Rattle.pc_command.specs.declared.refusal.Refusal.TheVariants.{NothingToUndo, NothingToRedo, NoMemory}
 use Rattle.pc_command.specs.declared.command.ViewName.{ViewName}
-use Rattle.pc_command.specs.declared.command.ViewName.TheVariants.{Syntax, Nodes, Errors}
+use Rattle.pc_command.specs.declared.command.ViewName.TheVariants.{Syntax, Nodes, Decls, Errors}
 use Rattle.pc_session.specs.declared.accepted.Accepted.{Accepted}
 use Rattle.pc_session.specs.declared.made.Made.{Made}
 use Rattle.pc_session.specs.PlainSession.{PlainSession, with_trees}
@@ -47,4 +48,5 @@ IsRedone s (Err _) t = ⊥
 abbrev pub shown : ViewName → PlainSession → List ℕ
 shown Syntax s = printed s.trees.tree
 shown Nodes s = tree_view s.trees.tree
+shown Decls s = limited (decls_text s.trees.tree)
 shown Errors s = limited (errors_text s.trees.tree)

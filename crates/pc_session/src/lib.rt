@@ -6,6 +6,7 @@
 #![tactic(auto)]
 
 mod accepted;
+mod declarations;
 mod editing;
 mod error_list;
 mod history;

@@ -8,6 +8,7 @@ ghost use Rattle.pc_session.specs.PlainSession.{opening};
 ghost use Rattle.pc_session.specs.Trees.{IsProgram, Trees, edited};
 
 use crate::accepted::Accepted;
+use crate::declarations::declarations;
 use crate::editing::{with_added_template, with_template, with_text, without_node};
 use crate::error_list::error_list;
 use crate::history::History;
@@ -216,7 +217,7 @@ impl Session {
         }
     }
 
-    /// The text of a view. Only memory can fail, and for that of the errors also the resolver where it has no more numbers.
+    /// The text of a view. Only memory can fail, and for those of declarations and of errors also the resolver where it has no more numbers.
     pub fn show<L: Ledger>(
         &mut self,
         alloc: Global,
@@ -230,6 +231,7 @@ impl Session {
         match name {
             ViewName::Syntax => print(alloc, self.tree()),
             ViewName::Nodes => tree_view(alloc, self.tree()),
+            ViewName::Decls => declarations(alloc, self.tree()),
             ViewName::Errors => error_list(alloc, self.tree()),
         }
     }
