@@ -61,6 +61,7 @@ fn told_command(alloc: Global, command: &Command) -> Result<Vec<u8>, AllocError>
         Command::Redo => b"[redo]".to_vec(alloc),
         Command::Show(ViewName::Syntax) => b"[show syntax]".to_vec(alloc),
         Command::Show(ViewName::Nodes) => b"[show tree]".to_vec(alloc),
+        Command::Show(ViewName::Decls) => b"[show decls]".to_vec(alloc),
         Command::Show(ViewName::Errors) => b"[show errors]".to_vec(alloc),
     }
 }

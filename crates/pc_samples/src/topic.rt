@@ -33,7 +33,7 @@ pub enum Topic {
 
 impl Topic {
     /// The files with their topics.
-    pub const FILES: [(&'static str, Topic); 21] = [
+    pub const FILES: [(&'static str, Topic); 22] = [
         ("words.txt", Topic::Words),
         ("templates.txt", Topic::Words),
         ("lexing.txt", Topic::Lexing),
@@ -54,6 +54,7 @@ impl Topic {
         ("loading.txt", Topic::Scripts),
         ("editing.txt", Topic::Scripts),
         ("errors.txt", Topic::Scripts),
+        ("decls.txt", Topic::Scripts),
         ("faults.txt", Topic::Faults),
     ];
 }
