@@ -1,0 +1,16 @@
+pub mod WayLemmas
+pub mod NodeLemmas
+pub mod ClearLemmas
+pub mod AroundLemmas
+pub mod PartLemmas
+pub mod FoundLemmas
+pub mod RoleLemmas
+pub mod TypeLemmas
+pub mod SeenLemmas
+pub mod OuterKinds
+pub mod OuterWays
+pub mod OuterRows
+pub mod BlockWays
+pub mod ListedLemmas
+pub mod WithinLemmas
+pub mod StandingLemmas
