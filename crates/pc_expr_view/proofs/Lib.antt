@@ -1,0 +1,5 @@
+pub mod Kids
+pub mod Structured
+pub mod Pieces
+pub mod Rows
+pub mod ToldLaws

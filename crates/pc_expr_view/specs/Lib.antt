@@ -1,0 +1,2 @@
+pub mod PartTypes
+pub mod ToldText
